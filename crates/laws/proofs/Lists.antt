@@ -1,0 +1,1 @@
+-- Laws of lists that the kit's library does not have.

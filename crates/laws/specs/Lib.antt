@@ -1,0 +1,2 @@
+-- Words about lists that definitions use.
+pub mod Each

@@ -1,0 +1,64 @@
+-- Checks 1 to 7 of a row list, in their order, and the fault of a list: the first check that fails.
+use Prim.Native.Nat.{ℕ, zero, suc}
+use mathlib.Core.Bool.{Bool, true, false, _||_}
+use mathlib.Core.List.{List, [], _∷_, _++_}
+use mathlib.Core.Option.{Option, none, some}
+use lib.Dec.{eqb, ltb}
+use lib.ListN.{length}
+use Rattle.quantities.specs.Limits.{rowCapacity, coreLimit, largestGap}
+use Rattle.quantities.specs.Row.{cost, deadline, gap}
+use Rattle.quantities.specs.declared.Row.{Row}
+use Rattle.quantities.specs.declared.Fault.{Fault}
+use Rattle.quantities.specs.declared.Fault.the-variants.{WholeList, OneRow}
+
+-- A check: its number in document 01, the place it speaks of (0 for the whole list), and whether it fails.
+pub record Check : Type 0 where
+  pub number : ℕ
+  pub place : ℕ
+  pub fails : Bool
+
+abbrev pub check : ℕ → ℕ → Bool → Check
+check number place fails = record { number = number; place = place; fails = fails }
+
+-- the checks of the row at a place
+unfoldable pub rowChecks : ℕ → Row → List Check
+rowChecks place row =
+    check 3 place (eqb (row .c .0) 0)
+    ∷ check 4 place (ltb (deadline row) (cost row))
+    ∷ check 5 place (ltb (gap row) (deadline row))
+    ∷ check 6 place (ltb largestGap (gap row))
+    ∷ []
+
+-- the checks of rows that stand at a place and below, row by row
+unfoldable pub rowsChecks : ℕ → List Row → List Check
+rowsChecks place [] = []
+rowsChecks place (row ∷ rows) = rowChecks place row ++ rowsChecks (suc place) rows
+
+-- the checks of a list of rows for a board with this many cores: 1, 2, then 3 to 6 of each row
+unfoldable pub listChecks : ℕ → List Row → List Check
+listChecks cores rows =
+    check 1 0 (eqb (length rows) 0 || ltb rowCapacity (length rows))
+    ∷ check 2 0 (eqb cores 0 || ltb coreLimit cores)
+    ∷ rowsChecks 1 rows
+
+-- the check of a bounds list with this many entries
+unfoldable pub roomChecks : ℕ → List Row → List Check
+roomChecks entries rows = check 7 0 (ltb entries (length rows)) ∷ []
+
+-- the first check that fails
+unfoldable pub firstFailing : List Check → Option Check
+firstFailing [] = none
+firstFailing (one ∷ rest) = elim (one .fails) [ true ↦ some one | false ↦ firstFailing rest ]
+
+-- a failed check as a fault: of the whole list at place 0, else of the row at its place
+unfoldable pub faultFrom : Option Check → Option Fault
+faultFrom none = none
+faultFrom (some one) = elim (one .place) [ zero ↦ some (WholeList (one .number)) | suc p ↦ some (OneRow (one .number) (suc p)) ]
+
+-- the fault of a list, if it has one: checks 1 to 6
+unfoldable pub listFault : ℕ → List Row → Option Fault
+listFault cores rows = faultFrom (firstFailing (listChecks cores rows))
+
+-- the fault of a list whose bounds go into a list with this many entries: checks 1 to 7
+unfoldable pub lentFault : ℕ → ℕ → List Row → Option Fault
+lentFault cores entries rows = faultFrom (firstFailing (listChecks cores rows ++ roomChecks entries rows))

@@ -1,0 +1,4 @@
+pub mod Limits
+pub mod Row
+pub mod Table
+pub mod Checks

@@ -1,0 +1,23 @@
+-- What the rules ask of a row: the work of one poll, its deadline, and the gap between polls, as numbers of ticks.
+use Prim.Native.Nat.{ℕ}
+use Rattle.quantities.specs.declared.Row.{Row}
+
+-- the most ticks that one poll of the row takes
+abbrev pub cost : Row → ℕ
+cost row = row .c .0
+
+-- the ticks after its release by which a poll has to be over
+abbrev pub deadline : Row → ℕ
+deadline row = row .d .0
+
+-- the fewest ticks between two releases of the row
+abbrev pub gap : Row → ℕ
+gap row = row .t .0
+
+-- the row with this C, D and T
+abbrev pub rowOf : ℕ → ℕ → ℕ → Row
+rowOf c d t = record { c = record { 0 = c }; d = record { 0 = d }; t = record { 0 = t } }
+
+-- what stands at a place of a table that holds no row
+abbrev pub noRow : Row
+noRow = rowOf 0 0 0

@@ -1,0 +1,6 @@
+pub mod Window
+pub mod Choice
+pub mod Least
+pub mod Bound
+pub mod Answer
+pub mod Starred
