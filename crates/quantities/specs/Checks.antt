@@ -10,6 +10,8 @@ use Rattle.quantities.specs.Row.{cost, deadline, gap}
 use Rattle.quantities.specs.declared.Row.{Row}
 use Rattle.quantities.specs.declared.Fault.{Fault}
 use Rattle.quantities.specs.declared.Fault.the-variants.{WholeList, OneRow}
+use Rattle.quantities.specs.declared.Checked.{Checked}
+use Rattle.quantities.specs.declared.Checked.the-variants.{Sound, Faulty}
 
 -- A check: its number in document 01, the place it speaks of (0 for the whole list), and whether it fails.
 pub record Check : Type 0 where
@@ -55,6 +57,14 @@ unfoldable pub faultFrom : Option Check → Option Fault
 faultFrom none = none
 faultFrom (some one) = elim (one .place) [ zero ↦ some (WholeList (one .number)) | suc p ↦ some (OneRow (one .number) (suc p)) ]
 
+-- the fault of the row at a place, if it has one: checks 3 to 6
+abbrev pub rowFault : ℕ → Row → Option Fault
+rowFault place row = faultFrom (firstFailing (rowChecks place row))
+
+-- the fault of rows that stand at a place and below
+abbrev pub rowsFault : ℕ → List Row → Option Fault
+rowsFault place rows = faultFrom (firstFailing (rowsChecks place rows))
+
 -- the fault of a list, if it has one: checks 1 to 6
 unfoldable pub listFault : ℕ → List Row → Option Fault
 listFault cores rows = faultFrom (firstFailing (listChecks cores rows))
@@ -62,3 +72,8 @@ listFault cores rows = faultFrom (firstFailing (listChecks cores rows))
 -- the fault of a list whose bounds go into a list with this many entries: checks 1 to 7
 unfoldable pub lentFault : ℕ → ℕ → List Row → Option Fault
 lentFault cores entries rows = faultFrom (firstFailing (listChecks cores rows ++ roomChecks entries rows))
+
+-- a fault, or none, as the code's functions answer it
+unfoldable pub checkedOf : Option Fault → Checked
+checkedOf none = Sound
+checkedOf (some fault) = Faulty fault

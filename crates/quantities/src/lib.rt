@@ -1,7 +1,9 @@
 //! The quantities of document 01: instants, lengths, microseconds, a row, a table with its named limits, and a fault.
 ghost use mathlib.Core.Path.{_≡_};
 ghost use Rattle.quantities.specs.Limits.{rowCapacity, coreLimit, largestGap};
-ghost use Rattle.quantities.specs.Table.{emptyTable, withRow};
+ghost use Prim.Native.Nat.{_≤_, _<_};
+ghost use Rattle.quantities.specs.Table.{rowsOf, emptyTable, withRow};
+ghost use Rattle.quantities.specs.Checks.{rowFault, rowsFault, listFault, checkedOf};
 
 // A point on the bench's clock.
 pub struct Instant(pub u64);
@@ -29,6 +31,52 @@ pub struct Table {
 pub enum Fault {
     WholeList(u32),
     OneRow(u32, usize),
+}
+
+// What checks 1 to 6 find in a table.
+pub enum Checked {
+    Sound,
+    Faulty(Fault),
+}
+
+// Checks 3 to 6 of the row at a place.
+fn check_row(row: Row, place: usize) -> Checked
+    requires { ⌜ 0 < place ⌝ }
+    ensures { λ r. ⌜ r ≡ checkedOf (rowFault place row) ⌝ }
+{
+    if row.c.0 == 0 {
+        return Checked::Faulty(Fault::OneRow(3, place));
+    }
+    if row.d.0 < row.c.0 {
+        return Checked::Faulty(Fault::OneRow(4, place));
+    }
+    if row.t.0 < row.d.0 {
+        return Checked::Faulty(Fault::OneRow(5, place));
+    }
+    if Table::LARGEST_GAP < row.t.0 {
+        return Checked::Faulty(Fault::OneRow(6, place));
+    }
+    Checked::Sound
+}
+
+// Checks 3 to 6 of a table's rows, from the top, row by row.
+fn check_rows(table: Table) -> Checked
+    requires { ⌜ table .count ≤ rowCapacity ⌝ }
+    ensures { λ r. ⌜ r ≡ checkedOf (rowsFault 1 (rowsOf table)) ⌝ }
+{
+    let mut i: usize = 0;
+    while i < table.count {
+        let row = table.rows[i];
+        let found = check_row(row, i + 1);
+        match found {
+            Checked::Sound => {}
+            Checked::Faulty(fault) => {
+                return Checked::Faulty(fault);
+            }
+        }
+        i += 1;
+    }
+    Checked::Sound
 }
 
 impl Table {
@@ -84,5 +132,24 @@ impl Table {
         }
         self.count = Table::ROW_CAPACITY + 1;
         self
+    }
+
+    // Checks 1 to 6 of the table's rows for a board with this many cores, in the order of a list.
+    pub fn check(self, cores: u32) -> Checked
+        ensures { λ r. ⌜ r ≡ checkedOf (listFault cores (rowsOf self)) ⌝ }
+    {
+        if self.count == 0 {
+            return Checked::Faulty(Fault::WholeList(1));
+        }
+        if Table::ROW_CAPACITY < self.count {
+            return Checked::Faulty(Fault::WholeList(1));
+        }
+        if cores == 0 {
+            return Checked::Faulty(Fault::WholeList(2));
+        }
+        if Table::CORE_LIMIT < cores {
+            return Checked::Faulty(Fault::WholeList(2));
+        }
+        check_rows(self)
     }
 }

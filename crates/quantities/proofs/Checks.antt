@@ -1,0 +1,139 @@
+-- Laws of the checks: which check of a row fails first, and which of several lists of checks.
+use Prim.Native.Nat.{ℕ, zero, suc, _≤_, _<_}
+use native.Mathlib.Omega.{arith}
+use mathlib.Core.Path.{_≡_, refl}
+use mathlib.Core.Bool.{Bool, true, false}
+use mathlib.Core.List.{List, [], _∷_, _++_}
+use mathlib.Core.Option.{Option, none, some}
+use lib.ListN.{length}
+use borrow.Author.Tests.{eq-eqb, ne-eqb, lt-ltb, le-ltb}
+use Rattle.quantities.specs.Limits.{rowCapacity, coreLimit, largestGap}
+use Rattle.quantities.specs.Row.{cost, deadline, gap, SoundRow}
+use Rattle.quantities.specs.Checks.{
+  Check,
+  check,
+  rowChecks,
+  rowsChecks,
+  listChecks,
+  firstFailing,
+  faultFrom,
+  rowFault,
+  rowsFault,
+  listFault,
+  checkedOf,
+}
+use Rattle.quantities.specs.declared.Row.{Row}
+use Rattle.quantities.specs.declared.Fault.{Fault}
+use Rattle.quantities.specs.declared.Fault.the-variants.{WholeList, OneRow}
+use Rattle.quantities.specs.declared.Checked.the-variants.{Sound, Faulty}
+
+-- a check that fails at a row's place is a fault of that row
+pub fault-at-row : (number place : ℕ) → 0 < place → faultFrom (some (check number place true)) ≡ some (OneRow number place)
+unfolding faultFrom
+fault-at-row number zero h = absurd (omega arith)
+fault-at-row number (suc p) h = refl
+
+-- a check that fails is some fault
+pub fault-is-some : (one : Check) → faultFrom (some one) ≡ none → ⊥
+unfolding faultFrom
+fault-is-some one = at (one .number) (one .place) (one .fails)
+  where
+    at : (number place : ℕ) (fails : Bool) → faultFrom (some (check number place fails)) ≡ none → ⊥
+    at number zero fails e = let z : _≡_ {A = ℕ} 0 1 = cc in omega arith
+    at number (suc p) fails e = let z : _≡_ {A = ℕ} 0 1 = cc in omega arith
+
+-- The fault of a row by the first of its checks that fails.
+module _ (place : ℕ) (row : Row) (h : 0 < place) where
+  pub row-fault-3 : row .c .0 ≡ 0 → rowFault place row ≡ some (OneRow 3 place)
+  unfolding rowChecks firstFailing
+  row-fault-3 no-work = simp (eq-eqb (row .c .0) 0 no-work) (fault-at-row 3 place h)
+
+  pub row-fault-4 : (row .c .0 ≡ 0 → ⊥) → deadline row < cost row → rowFault place row ≡ some (OneRow 4 place)
+  unfolding rowChecks firstFailing
+  row-fault-4 work late =
+      simp (ne-eqb (row .c .0) 0 work, lt-ltb (deadline row) (cost row) late) (fault-at-row 4 place h)
+
+  pub row-fault-5 : (row .c .0 ≡ 0 → ⊥) → cost row ≤ deadline row → gap row < deadline row → rowFault place row ≡ some (OneRow 5 place)
+  unfolding rowChecks firstFailing
+  row-fault-5 work in-time wide =
+      simp (ne-eqb (row .c .0) 0 work, le-ltb (deadline row) (cost row) in-time, lt-ltb (gap row) (deadline row) wide) (fault-at-row 5 place h)
+
+  pub row-fault-6 : (row .c .0 ≡ 0 → ⊥) → cost row ≤ deadline row → deadline row ≤ gap row → largestGap < gap row → rowFault place row ≡ some (OneRow 6 place)
+  unfolding rowChecks firstFailing
+  row-fault-6 work in-time in-gap long =
+      simp (ne-eqb (row .c .0) 0 work, le-ltb (deadline row) (cost row) in-time, le-ltb (gap row) (deadline row) in-gap, lt-ltb largestGap (gap row) long)
+      (fault-at-row 6 place h)
+
+-- A sound row has no fault.
+pub row-fault-none : (place : ℕ) (row : Row) → SoundRow row → rowFault place row ≡ none
+unfolding rowChecks firstFailing faultFrom
+row-fault-none place row s =
+    simp (ne-eqb (row .c .0) 0 (omega arith), le-ltb (deadline row) (cost row) (s .in-time), le-ltb (gap row) (deadline row) (s .in-gap), le-ltb largestGap (gap row) (s .short-gap))
+
+-- Of two lists of checks, the first decides where one of its checks fails, else the second does.
+pub fault-in-first : (a b : List Check) (f : Fault) → faultFrom (firstFailing a) ≡ some f → faultFrom (firstFailing (a ++ b)) ≡ some f
+unfolding firstFailing faultFrom
+fault-in-first [] b f e = let z : _≡_ {A = ℕ} 0 1 = cc in absurd (omega arith)
+fault-in-first (one ∷ a) b f e = go (one .fails) refl (fault-in-first a b f)
+  where
+    go : (t : Bool) → one .fails ≡ t → (faultFrom (firstFailing a) ≡ some f → faultFrom (firstFailing (a ++ b)) ≡ some f) → faultFrom (firstFailing (one ∷ a ++ b)) ≡ some f
+    go true q later = rw (q, firstFailing) (rw (q, firstFailing) at e)
+    go false q later = rw (q, firstFailing) (later (rw (q, firstFailing) at e))
+
+pub fault-in-second : (a b : List Check) → faultFrom (firstFailing a) ≡ none → faultFrom (firstFailing (a ++ b)) ≡ faultFrom (firstFailing b)
+unfolding firstFailing faultFrom
+fault-in-second [] b e = refl
+fault-in-second (one ∷ a) b e = go (one .fails) refl (fault-in-second a b)
+  where
+    go : (t : Bool) → one .fails ≡ t → (faultFrom (firstFailing a) ≡ none → faultFrom (firstFailing (a ++ b)) ≡ faultFrom (firstFailing b)) → faultFrom (firstFailing (one ∷ a ++ b)) ≡ faultFrom (firstFailing b)
+    go true q later = absurd (fault-is-some one (rw (q, firstFailing) at e))
+    go false q later = rw (q, firstFailing) (later (rw (q, firstFailing) at e))
+
+-- The rows at a place and below: the first row decides where it has a fault, else the rows below it do.
+pub rows-fault-here : (place : ℕ) (row : Row) (rows : List Row) (f : Fault) → rowFault place row ≡ some f → rowsFault place (row ∷ rows) ≡ some f
+unfolding rowsChecks
+rows-fault-here place row rows f = fault-in-first (rowChecks place row) (rowsChecks (suc place) rows) f
+
+pub rows-fault-below : (place : ℕ) (row : Row) (rows : List Row) → rowFault place row ≡ none → rowsFault place (row ∷ rows) ≡ rowsFault (suc place) rows
+unfolding rowsChecks
+rows-fault-below place row rows = fault-in-second (rowChecks place row) (rowsChecks (suc place) rows)
+
+pub rows-fault-none : (place : ℕ) → rowsFault place [] ≡ none
+unfolding rowsChecks firstFailing faultFrom
+rows-fault-none place = refl
+
+-- The fault of a list, by the first of its checks that fails.
+module _ (cores : ℕ) (rows : List Row) where
+  pub list-fault-no-rows : length rows ≡ 0 → listFault cores rows ≡ some (WholeList 1)
+  unfolding listFault listChecks firstFailing faultFrom
+  list-fault-no-rows e = simp (eq-eqb (length rows) 0 e)
+
+  pub list-fault-many-rows : (length rows ≡ 0 → ⊥) → rowCapacity < length rows → listFault cores rows ≡ some (WholeList 1)
+  unfolding listFault listChecks firstFailing faultFrom
+  list-fault-many-rows some-rows many = simp (ne-eqb (length rows) 0 some-rows, lt-ltb rowCapacity (length rows) many)
+
+  pub list-fault-no-cores : (length rows ≡ 0 → ⊥) → length rows ≤ rowCapacity → cores ≡ 0 → listFault cores rows ≡ some (WholeList 2)
+  unfolding listFault listChecks firstFailing faultFrom
+  list-fault-no-cores some-rows few e =
+      simp (ne-eqb (length rows) 0 some-rows, le-ltb rowCapacity (length rows) few, eq-eqb cores 0 e)
+
+  pub list-fault-many-cores : (length rows ≡ 0 → ⊥) → length rows ≤ rowCapacity → (cores ≡ 0 → ⊥) → coreLimit < cores → listFault cores rows ≡ some (WholeList 2)
+  unfolding listFault listChecks firstFailing faultFrom
+  list-fault-many-cores some-rows few some-cores many =
+      simp (ne-eqb (length rows) 0 some-rows, le-ltb rowCapacity (length rows) few, ne-eqb cores 0 some-cores, lt-ltb coreLimit cores many)
+
+  pub list-fault-rows : (length rows ≡ 0 → ⊥) → length rows ≤ rowCapacity → (cores ≡ 0 → ⊥) → cores ≤ coreLimit → listFault cores rows ≡ rowsFault 1 rows
+  unfolding listFault listChecks firstFailing
+  list-fault-rows some-rows few some-cores few-cores =
+      simp (ne-eqb (length rows) 0 some-rows, le-ltb rowCapacity (length rows) few, ne-eqb cores 0 some-cores, le-ltb coreLimit cores few-cores)
+
+-- What the code's answer says of the fault.
+pub checked-sound : (found : Option Fault) → checkedOf found ≡ Sound → found ≡ none
+unfolding checkedOf
+checked-sound none e = refl
+checked-sound (some f) e = let z : _≡_ {A = ℕ} 0 1 = cc in absurd (omega arith)
+
+pub checked-faulty : (found : Option Fault) (f : Fault) → checkedOf found ≡ Faulty f → found ≡ some f
+unfolding checkedOf
+checked-faulty none f e = let z : _≡_ {A = ℕ} 0 1 = cc in absurd (omega arith)
+checked-faulty (some g) f e = cc

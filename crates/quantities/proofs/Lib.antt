@@ -1,0 +1,3 @@
+-- Laws of the quantities' definitions.
+pub mod Checks
+pub mod Rows
