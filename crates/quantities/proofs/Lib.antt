@@ -1,3 +1,4 @@
 -- Laws of the quantities' definitions.
 pub mod Checks
+pub mod Sound
 pub mod Rows

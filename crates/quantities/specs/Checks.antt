@@ -1,12 +1,14 @@
 -- Checks 1 to 7 of a row list, in their order, and the fault of a list: the first check that fails.
-use Prim.Native.Nat.{ℕ, zero, suc}
+use Prim.Native.Nat.{ℕ, zero, suc, _≤_, _<_}
+use mathlib.Core.Path.{_≡_}
 use mathlib.Core.Bool.{Bool, true, false, _||_}
 use mathlib.Core.List.{List, [], _∷_, _++_}
 use mathlib.Core.Option.{Option, none, some}
 use lib.Dec.{eqb, ltb}
 use lib.ListN.{length}
+use Rattle.laws.specs.Each.{Each}
 use Rattle.quantities.specs.Limits.{rowCapacity, coreLimit, largestGap}
-use Rattle.quantities.specs.Row.{cost, deadline, gap}
+use Rattle.quantities.specs.Row.{cost, deadline, gap, SoundRow}
 use Rattle.quantities.specs.declared.Row.{Row}
 use Rattle.quantities.specs.declared.Fault.{Fault}
 use Rattle.quantities.specs.declared.Fault.the-variants.{WholeList, OneRow}
@@ -72,6 +74,22 @@ listFault cores rows = faultFrom (firstFailing (listChecks cores rows))
 -- the fault of a list whose bounds go into a list with this many entries: checks 1 to 7
 unfoldable pub lentFault : ℕ → ℕ → List Row → Option Fault
 lentFault cores entries rows = faultFrom (firstFailing (listChecks cores rows ++ roomChecks entries rows))
+
+-- A list that passes checks 1 to 6 on a board with this many cores.
+pub record SoundList (cores : ℕ) (rows : List Row) : Type 0 where
+  pub some-rows : 0 < length rows
+  pub few-rows : length rows ≤ rowCapacity
+  pub some-cores : 0 < cores
+  pub few-cores : cores ≤ coreLimit
+  pub sound-rows : Each SoundRow rows
+
+-- One check is the first of a list that fails: it stands there, it fails, and no check before it does.
+pub record FirstFailing (checks : List Check) (one : Check) : Type 0 where
+  pub before : List Check
+  pub after : List Check
+  pub stands : checks ≡ before ++ one ∷ after
+  pub failed : one .fails ≡ true
+  pub passed : Each (λ earlier. earlier .fails ≡ false) before
 
 -- a fault, or none, as the code's functions answer it
 unfoldable pub checkedOf : Option Fault → Checked
