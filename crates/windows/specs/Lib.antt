@@ -3,4 +3,5 @@ pub mod Choice
 pub mod Least
 pub mod Bound
 pub mod Answer
+pub mod Judgement
 pub mod Starred
