@@ -1,0 +1,2 @@
+-- The laws of the definitions, file by file.
+pub mod Choice
