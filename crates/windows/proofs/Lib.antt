@@ -1,2 +1,3 @@
 -- The laws of the definitions, file by file.
 pub mod Choice
+pub mod Least
