@@ -1,2 +1,5 @@
 -- The laws of the definitions, file by file.
 pub mod Window
+pub mod Choice
+pub mod Least
+pub mod Bound

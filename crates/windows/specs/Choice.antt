@@ -17,6 +17,12 @@ pub record Bounded : Type 0 where
 abbrev pub bounded : Row → ℕ → Bounded
 bounded row bound = record { row = row; bound = bound }
 
+-- The bound of a row that passed the checks stands in range: at least its cost, which is not 0, and at most its gap.
+pub record InRange (b : Bounded) : Type 0 where
+  pub works : 1 ≤ cost (b .row)
+  pub low : cost (b .row) ≤ b .bound
+  pub high : b .bound ≤ gap (b .row)
+
 -- What one row above takes from the row judged, without and with carry-in.
 pub record Load : Type 0 where
   pub without : ℕ

@@ -1,0 +1,40 @@
+-- What `window` means: the least window that passes in document 01's words, or none where no window passes.
+use Prim.Native.Nat.{ℕ, _≤_}
+use mathlib.Core.Path.{_≡_}
+use mathlib.Core.Logic.{_↔_, Iff·trans, Iff·symm}
+use mathlib.Core.List.{List}
+use mathlib.Core.Option.{Option, none, some}
+use native.Mathlib.Omega.{arith}
+use Rattle.quantities.specs.declared.Row.{Row}
+use Rattle.quantities.specs.Row.{cost, deadline, gap}
+use Rattle.windows.specs.Choice.{Bounded, bounded, InRange, Passes, passes}
+use Rattle.windows.specs.Least.{IsLeast, NoneIn}
+use Rattle.windows.specs.Bound.{window, boundOf}
+use Rattle.windows.proofs.Choice.{passes-means}
+use Rattle.windows.proofs.Least.{Outcome, outcome-some, outcome-none, outcome-agrees, least-is}
+
+-- an answer is the window exactly when it tells what is so of every choice
+pub window-is : (M own top : ℕ) (above : List Bounded) (o : Option ℕ)
+    → (window M own top above ≡ o) ↔ Outcome (Passes M own above) own top o
+unfolding window
+window-is M own top above o =
+    Iff·trans
+    (least-is (passes M own above) own top o) (
+      outcome-agrees (λ y low high. passes-means M own above y),
+      outcome-agrees (λ y low high. Iff·symm (passes-means M own above y)),
+    )
+
+pub window-some : (M own top : ℕ) (above : List Bounded) (x : ℕ)
+    → (window M own top above ≡ some x) ↔ IsLeast (Passes M own above) own top x
+window-some M own top above x = Iff·trans (window-is M own top above (some x)) outcome-some
+
+pub window-none : (M own top : ℕ) (above : List Bounded)
+    → (window M own top above ≡ none) ↔ NoneIn (Passes M own above) own top
+window-none M own top above = Iff·trans (window-is M own top above none) outcome-none
+
+-- the bound of a row that passed the checks is in range, so the rows above a row always are
+pub bound-in-range : (M r : ℕ) (above : List Bounded) (row : Row) → 1 ≤ cost row → deadline row ≤ gap row
+    → boundOf M above row ≡ some r → InRange (bounded row r)
+bound-in-range M r above row works short is-bound =
+    let is-least = window-some M (cost row) (deadline row) above r .0 is-bound in
+    record { works = works; low = is-least .low; high = omega arith }
