@@ -3,9 +3,9 @@ use Prim.Native.Nat.{ℕ, suc, _+_, _-_, _*_, _/_, _%_, _≤_, _<_, min, max}
 use mathlib.Core.Path.{_≡_, ap}
 use native.Mathlib.Decide.{decLe}
 use native.Mathlib.Nat.{div-add-mod', mod-lt, mul-div-left, mul-mod-left}
-use native.Mathlib.Nat.{le-refl, le-dest, add-le-add, add-sub-of-le, mul-le-mul-left}
+use native.Mathlib.Nat.{le-refl, le-dest, add-le-add, add-sub-of-le}
 use native.Mathlib.Omega.{arith}
-use Rattle.laws.proofs.Numbers.{stairs}
+use Rattle.laws.proofs.Numbers.{div-mul-add-mod-le, stairs}
 use Rattle.windows.specs.Window.{plain, carry, limit, interference}
 
 -- Without carry-in.
@@ -36,7 +36,7 @@ plain-whole c t n h = rw (mul-div-left n h, mul-mod-left n t) (omega arith)
 -- a row works no more ticks than the window has
 pub plain-le-window : (c t x : ℕ) → c ≤ t → plain c t x ≤ x
 unfolding plain
-plain-le-window c t x h = omega (arith, mul-le-mul-left (x / t) h, div-add-mod' x t)
+plain-le-window c t x h = omega (arith, div-mul-add-mod-le x t c h)
 
 -- With carry-in.
 

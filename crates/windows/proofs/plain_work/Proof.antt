@@ -1,0 +1,50 @@
+-- plain_work answers the formula without carry-in; no product or sum in it is larger than the window.
+use Prim.Native.Nat.{_+_, _*_, _/_, _%_, _≤_}
+use native.Mathlib.Nat.{min-eq-left, min-eq-right, le-of-lt}
+use native.Mathlib.Omega.{arith}
+use borrow.Author.Needs.{needs}
+use Rattle.laws.proofs.Numbers.{div-mul-add-mod-le}
+use Rattle.quantities.specs.Row.{cost, gap}
+use Rattle.quantities.specs.declared.Row.{Row}
+use Rattle.quantities.specs.declared.Ticks.{Ticks}
+use Rattle.windows.specs.Window.{plain}
+use Rattle.windows.proofs.plain_work.Statement.{statement}
+use Rattle.windows.proofs.plain_work.Tie as tie
+
+-- the window holds the whole gaps' polls and the rest
+within : (row : Row) (window : Ticks) → cost row ≤ gap row
+    → window .0 / gap row * cost row + window .0 % gap row ≤ window .0
+within row window h = div-mul-add-mod-le (window .0) (gap row) (cost row) h
+
+div-gaps : tie.Need-div-gaps
+div-gaps c = search needs
+
+rem-rest : tie.Need-rem-rest
+rem-rest c = search needs
+
+mul-whole : tie.Need-mul-whole
+mul-whole c =
+    let s = c .before .before in
+    omega (arith, within (s .args .row) (s .args .window) (s .pre .1))
+
+add-begun : tie.Need-add-begun
+add-begun c =
+    let s = c .before .before .before in
+    omega (arith, within (s .args .row) (s .args .window) (s .pre .1))
+
+returns : tie.Need-returns
+unfolding plain
+returns c = simp (min-eq-left (le-of-lt (c .if1 .taken)))
+
+add-full : tie.Need-add-full
+add-full c =
+    let s = c .before .before .before in
+    omega (arith, within (s .args .row) (s .args .window) (s .pre .1))
+
+returns-2 : tie.Need-returns-2
+unfolding plain
+returns-2 c = simp (min-eq-right (c .if1 .left))
+
+pub plain-work-spec : {M : Type 1} → statement M
+plain-work-spec =
+    tie.close (tie.spec div-gaps rem-rest mul-whole add-begun returns add-full returns-2)
