@@ -3,3 +3,4 @@ pub mod Window
 pub mod Choice
 pub mod Least
 pub mod Bound
+pub mod Jump
