@@ -14,9 +14,8 @@ use Rattle.quantities.specs.Checks.{SoundList}
 use Rattle.quantities.specs.declared.Row.{Row}
 use Rattle.quantities.proofs.Sound.{sound-list-means}
 use Rattle.windows.specs.declared.Answer.the-variants.{Shown, NotShown}
-use Rattle.windows.specs.Choice.{Bounded, bounded, Passes}
-use Rattle.windows.specs.Least.{IsLeast, NoneIn}
-use Rattle.windows.specs.Bound.{boundOf, boundsBelow}
+use Rattle.windows.specs.Choice.{Bounded, bounded}
+use Rattle.windows.specs.Bound.{boundOf, IsBound, NoBound, boundsBelow}
 use Rattle.windows.specs.Answer.{Judged, verdict, judgedAfter, judged}
 use Rattle.windows.specs.Judgement.{rowAt, aboveAt, AllShown, FirstNotShown, Judgement}
 use Rattle.windows.proofs.Least.{least-unique}
@@ -26,10 +25,10 @@ use Rattle.windows.proofs.Bound.{window-some, window-none}
 pub data Walk (M : ℕ) : List Bounded → List Row → List ℕ → Type 0 where
   over : {above : List Bounded} → Walk M above [] []
   stop : {above : List Bounded} {row : Row} {rows : List Row}
-    → NoneIn (Passes M (cost row) above) (cost row) (deadline row) → Walk M above (row ∷ rows) []
+      → NoBound M above row → Walk M above (row ∷ rows) []
   on : {above : List Bounded} {row : Row} {rows : List Row} {b : ℕ} {bounds : List ℕ}
-    → IsLeast (Passes M (cost row) above) (cost row) (deadline row) b
-    → Walk M (bounded row b ∷ above) rows bounds → Walk M above (row ∷ rows) (b ∷ bounds)
+      → IsBound M above row b
+      → Walk M (bounded row b ∷ above) rows bounds → Walk M above (row ∷ rows) (b ∷ bounds)
 
 -- the bounds of a list are such a walk
 pub walk : (M : ℕ) (above : List Bounded) (rows : List Row) → Walk M above rows (boundsBelow M above rows)
@@ -38,8 +37,8 @@ walk M above [] = over
 walk M above (row ∷ rows) = go (boundOf M above row) refl (λ b. walk M (bounded row b ∷ above) rows)
   where
     go : (found : Option ℕ) → boundOf M above row ≡ found
-      → ((b : ℕ) → Walk M (bounded row b ∷ above) rows (boundsBelow M (bounded row b ∷ above) rows))
-      → Walk M above (row ∷ rows) (elim found [ none ↦ [] | some b ↦ b ∷ boundsBelow M (bounded row b ∷ above) rows ])
+        → ((b : ℕ) → Walk M (bounded row b ∷ above) rows (boundsBelow M (bounded row b ∷ above) rows))
+        → Walk M above (row ∷ rows) (elim found [ none ↦ [] | some b ↦ b ∷ boundsBelow M (bounded row b ∷ above) rows ])
     go none q below = stop (window-none M (cost row) (deadline row) above .0 q)
     go (some b) q below = on (window-some M (cost row) (deadline row) above b .0 q) (below b)
 
@@ -72,23 +71,21 @@ above-next above row rows b bounds (suc k) = rw (above-next above row rows b bou
 
 -- What a walk says of each row, by its index.
 abbrev LeastOn : ℕ → List Bounded → List Row → List ℕ → ℕ → Type 0
-LeastOn M above rows bounds k =
-    IsLeast (Passes M (cost (rowAt rows k)) (aboveOn above rows bounds k)) (cost (rowAt rows k)) (deadline (rowAt rows k)) (getD bounds k 0)
+LeastOn M above rows bounds k = IsBound M (aboveOn above rows bounds k) (rowAt rows k) (getD bounds k 0)
 
 abbrev NoneOn : ℕ → List Bounded → List Row → List ℕ → ℕ → Type 0
-NoneOn M above rows bounds k =
-    NoneIn (Passes M (cost (rowAt rows k)) (aboveOn above rows bounds k)) (cost (rowAt rows k)) (deadline (rowAt rows k))
+NoneOn M above rows bounds k = NoBound M (aboveOn above rows bounds k) (rowAt rows k)
 
 -- what is said of a row further down is said of it from one row higher up
 module _ (M : ℕ) (above : List Bounded) (row : Row) (rows : List Row) (b : ℕ) (bounds : List ℕ) (k : ℕ) where
   none-higher : NoneOn M (bounded row b ∷ above) rows bounds k → NoneOn M above (row ∷ rows) (b ∷ bounds) (suc k)
   none-higher =
-      subst⁻¹ (λ (up : List Bounded). NoneIn (Passes M (cost (rowAt rows k)) up) (cost (rowAt rows k)) (deadline (rowAt rows k)))
+      subst⁻¹ (λ (up : List Bounded). NoBound M up (rowAt rows k))
       (above-next above row rows b bounds k)
 
   none-lower : NoneOn M above (row ∷ rows) (b ∷ bounds) (suc k) → NoneOn M (bounded row b ∷ above) rows bounds k
   none-lower =
-      subst (λ (up : List Bounded). NoneIn (Passes M (cost (rowAt rows k)) up) (cost (rowAt rows k)) (deadline (rowAt rows k)))
+      subst (λ (up : List Bounded). NoBound M up (rowAt rows k))
       (above-next above row rows b bounds k)
 
 walk-least : {M : ℕ} {above : List Bounded} {rows : List Row} {bounds : List ℕ} → Walk M above rows bounds
@@ -142,14 +139,14 @@ verdict-means M rows bounds w =
     }
   where
     go : Ends M [] rows bounds
-      → AllShown rows (verdict (length rows) bounds) ⊎ FirstNotShown M rows (verdict (length rows) bounds)
+        → AllShown rows (verdict (length rows) bounds) ⊎ FirstNotShown M rows (verdict (length rows) bounds)
     go (all e) = inl (record { says = rw (eq-eqb (length bounds) (length rows) e, verdict) refl; each = e })
     go (short l n) =
         inr
         (record {
           says = rw (ne-eqb (length bounds) (length rows) (λ e. omega arith), verdict) refl;
           stands = l;
-          none = subst (λ (up : List Bounded). NoneIn (Passes M (cost (rowAt rows (length bounds))) up) (cost (rowAt rows (length bounds))) (deadline (rowAt rows (length bounds)))) (above-on rows bounds (length bounds)) n;
+          none = subst (λ (up : List Bounded). NoBound M up (rowAt rows (length bounds))) (above-on rows bounds (length bounds)) n;
         })
 
 -- The answer to a sound list reads as its judgement.
@@ -164,7 +161,7 @@ judgement-walk M rows j means =
     (⊎-elim (λ a. all (a .each)) (λ n. short (n .stands) (none-on n)) (means .ends))
   where
     none-on : FirstNotShown M rows j → NoneOn M [] rows (j .bounds) (length (j .bounds))
-    none-on n = subst⁻¹ (λ (up : List Bounded). NoneIn (Passes M (cost (rowAt rows (length (j .bounds)))) up) (cost (rowAt rows (length (j .bounds)))) (deadline (rowAt rows (length (j .bounds))))) (above-on rows (j .bounds) (length (j .bounds))) (n .none)
+    none-on n = subst⁻¹ (λ (up : List Bounded). NoBound M up (rowAt rows (length (j .bounds)))) (above-on rows (j .bounds) (length (j .bounds))) (n .none)
 
 -- One outcome: no two answers to the same rows read as their judgement.
 pub one-judgement : (M : ℕ) (rows : List Row) (j k : Judged) → Judgement M rows j → Judgement M rows k → j ≡ k

@@ -3,4 +3,5 @@ pub mod Window
 pub mod Choice
 pub mod Least
 pub mod Bound
+pub mod Jump
 pub mod Judgement

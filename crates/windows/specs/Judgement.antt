@@ -1,14 +1,14 @@
 -- What the answer to a sound list says, literally: least windows down to the first row that has none.
-use Prim.Native.Nat.{ℕ, zero, suc, _≤_, _<_}
+use Prim.Native.Nat.{ℕ, zero, suc, _<_}
 use mathlib.Core.Path.{_≡_}
 use mathlib.Core.Logic.{_⊎_}
 use mathlib.Core.List.{List, [], _∷_}
 use lib.ListN.{length, getD}
-use Rattle.quantities.specs.Row.{cost, deadline, noRow}
+use Rattle.quantities.specs.Row.{noRow}
 use Rattle.quantities.specs.declared.Row.{Row}
 use Rattle.windows.specs.declared.Answer.the-variants.{Shown, NotShown}
-use Rattle.windows.specs.Choice.{Bounded, bounded, Passes}
-use Rattle.windows.specs.Least.{IsLeast, NoneIn}
+use Rattle.windows.specs.Choice.{Bounded, bounded}
+use Rattle.windows.specs.Bound.{IsBound, NoBound}
 use Rattle.windows.specs.Answer.{Judged}
 
 -- the row with index k, counted from 0: it stands at place k + 1
@@ -20,19 +20,6 @@ abbrev pub aboveAt : List Row → List ℕ → ℕ → List Bounded
 aboveAt rows bounds zero = []
 aboveAt rows bounds (suc k) = bounded (rowAt rows k) (getD bounds k 0) ∷ aboveAt rows bounds k
 
--- the window x passes for the row with index k, whatever permitted choice of the rows above it carries in
-abbrev pub PassesAt : ℕ → List Row → List ℕ → ℕ → ℕ → Type 0
-PassesAt M rows bounds k x = Passes M (cost (rowAt rows k)) (aboveAt rows bounds k) x
-
--- x is the least window from C to D that passes for the row with index k
-abbrev pub LeastAt : ℕ → List Row → List ℕ → ℕ → ℕ → Type 0
-LeastAt M rows bounds k x =
-    IsLeast (PassesAt M rows bounds k) (cost (rowAt rows k)) (deadline (rowAt rows k)) x
-
--- no window from C to D passes for the row with index k
-abbrev pub NoneAt : ℕ → List Row → List ℕ → ℕ → Type 0
-NoneAt M rows bounds k = NoneIn (PassesAt M rows bounds k) (cost (rowAt rows k)) (deadline (rowAt rows k))
-
 -- Every row has its bound.
 pub record AllShown (rows : List Row) (judged : Judged) : Type 0 where
   pub says : judged .answer ≡ Shown
@@ -42,10 +29,12 @@ pub record AllShown (rows : List Row) (judged : Judged) : Type 0 where
 pub record FirstNotShown (M : ℕ) (rows : List Row) (judged : Judged) : Type 0 where
   pub says : judged .answer ≡ NotShown (suc (length (judged .bounds)))
   pub stands : length (judged .bounds) < length rows
-  pub none : NoneAt M rows (judged .bounds) (length (judged .bounds))
+  pub none : NoBound M (aboveAt rows (judged .bounds) (length (judged .bounds)))
+      (rowAt rows (length (judged .bounds)))
 
 -- The answer to rows that pass the checks: each bound is the least window from C to D that passes, and either every
 -- row has one, or the first row without is named, and it and the rows below it have none.
 pub record Judgement (M : ℕ) (rows : List Row) (judged : Judged) : Type 0 where
-  pub least : (k : ℕ) → k < length (judged .bounds) → LeastAt M rows (judged .bounds) k (getD (judged .bounds) k 0)
+  pub least : (k : ℕ) → k < length (judged .bounds)
+      → IsBound M (aboveAt rows (judged .bounds) k) (rowAt rows k) (getD (judged .bounds) k 0)
   pub ends : AllShown rows judged ⊎ FirstNotShown M rows judged

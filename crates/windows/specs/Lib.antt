@@ -2,6 +2,7 @@ pub mod Window
 pub mod Choice
 pub mod Least
 pub mod Bound
+pub mod Jump
 pub mod Answer
 pub mod Judgement
 pub mod Starred
