@@ -149,10 +149,16 @@ verdict-means M rows bounds w =
           none = subst (λ (up : List Bounded). NoBound M up (rowAt rows (length bounds))) (above-on rows bounds (length bounds)) n;
         })
 
+-- the answer to a sound list is the verdict on its bounds
+pub judged-sound : (M : ℕ) (rows : List Row) → SoundList M rows
+    → judged M rows ≡ verdict (length rows) (boundsBelow M [] rows)
+unfolding judged judgedAfter
+judged-sound M rows sound = rw (sound-list-means M rows .1 sound)
+
 -- The answer to a sound list reads as its judgement.
 pub judged-means : (M : ℕ) (rows : List Row) → SoundList M rows → Judgement M rows (judged M rows)
-unfolding judged judgedAfter
-judged-means M rows sound = rw (sound-list-means M rows .1 sound) (verdict-means M rows (boundsBelow M [] rows) (walk M [] rows))
+judged-means M rows sound =
+    rw (judged-sound M rows sound) (verdict-means M rows (boundsBelow M [] rows) (walk M [] rows))
 
 -- a judgement's bounds are a walk
 judgement-walk : (M : ℕ) (rows : List Row) (j : Judged) → Judgement M rows j → Walk M [] rows (j .bounds)

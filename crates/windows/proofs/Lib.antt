@@ -5,3 +5,4 @@ pub mod Least
 pub mod Bound
 pub mod Jump
 pub mod Judgement
+pub mod Prefix

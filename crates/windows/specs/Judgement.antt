@@ -1,9 +1,9 @@
 -- What the answer to a sound list says, literally: least windows down to the first row that has none.
-use Prim.Native.Nat.{ℕ, zero, suc, _<_}
+use Prim.Native.Nat.{ℕ, zero, suc, _≤_, _<_}
 use mathlib.Core.Path.{_≡_}
-use mathlib.Core.Logic.{_⊎_}
+use mathlib.Core.Logic.{_⊎_, _↔_}
 use mathlib.Core.List.{List, [], _∷_}
-use lib.ListN.{length, getD}
+use lib.ListN.{length, getD, take}
 use Rattle.quantities.specs.Row.{noRow}
 use Rattle.quantities.specs.declared.Row.{Row}
 use Rattle.windows.specs.declared.Answer.the-variants.{Shown, NotShown}
@@ -38,3 +38,8 @@ pub record Judgement (M : ℕ) (rows : List Row) (judged : Judged) : Type 0 wher
   pub least : (k : ℕ) → k < length (judged .bounds)
       → IsBound M (aboveAt rows (judged .bounds) k) (rowAt rows k) (getD (judged .bounds) k 0)
   pub ends : AllShown rows judged ⊎ FirstNotShown M rows judged
+
+-- Two answers are the same for places 1 to k: the same bounds, and the same place named, if one of these is.
+pub record SameDownTo (k : ℕ) (a b : Judged) : Type 0 where
+  pub bounds : take k (a .bounds) ≡ take k (b .bounds)
+  pub named : (place : ℕ) → place ≤ k → (a .answer ≡ NotShown place) ↔ (b .answer ≡ NotShown place)

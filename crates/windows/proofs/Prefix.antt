@@ -1,0 +1,87 @@
+-- Rows below make no difference to the answer: lists that agree down to a place are answered alike down to it.
+use Prim.Native.Nat.{ℕ, zero, suc, _≤_, _<_, min}
+use native.Mathlib.Omega.{arith}
+use mathlib.Core.Path.{_≡_, refl, ap, sym, _∙_}
+use mathlib.Core.Logic.{_↔_, _≢_}
+use mathlib.Core.Bool.{Bool, true, false}
+use mathlib.Core.List.{List, [], _∷_}
+use mathlib.Core.Option.{Option, none, some}
+use lib.Dec.{eqb}
+use lib.ListN.{length, take, length-take}
+use borrow.Author.Tests.{eqb-true, eqb-false}
+use Rattle.quantities.specs.Checks.{SoundList}
+use Rattle.quantities.specs.declared.Row.{Row}
+use Rattle.windows.specs.Choice.{Bounded, bounded}
+use Rattle.windows.specs.declared.Answer.the-variants.{Shown, NotShown}
+use Rattle.windows.specs.Bound.{boundOf, boundsBelow}
+use Rattle.windows.specs.Answer.{Judged, verdict, judged}
+use Rattle.windows.specs.Judgement.{SameDownTo}
+use Rattle.windows.proofs.Judgement.{Walk, over, stop, on, walk, judged-sound}
+
+-- the bounds of the first rows are the first bounds of the rows
+pub bounds-prefix : (M : ℕ) (above : List Bounded) (rows : List Row) (k : ℕ)
+    → boundsBelow M above (take k rows) ≡ take k (boundsBelow M above rows)
+unfolding boundsBelow
+bounds-prefix M above rows zero = refl
+bounds-prefix M above [] (suc k) = refl
+bounds-prefix M above (row ∷ rows) (suc k) = go (boundOf M above row) refl (λ b. bounds-prefix M (bounded row b ∷ above) rows k)
+  where
+    go : (found : Option ℕ) → boundOf M above row ≡ found
+        → ((b : ℕ) → boundsBelow M (bounded row b ∷ above) (take k rows) ≡ take k (boundsBelow M (bounded row b ∷ above) rows))
+        → boundsBelow M above (row ∷ take k rows) ≡ take (suc k) (boundsBelow M above (row ∷ rows))
+    go none q below = rw (q, boundsBelow) refl
+    go (some b) q below = rw (q, boundsBelow) (ap (λ bs. b ∷ bs) (below b))
+
+-- no more bounds than rows
+walk-few : {M : ℕ} {above : List Bounded} {rows : List Row} {bounds : List ℕ} → Walk M above rows bounds
+    → length bounds ≤ length rows
+walk-few over = omega arith
+walk-few (stop p) = omega arith
+walk-few (on p w) = omega (arith, walk-few w)
+
+-- which place a verdict names
+verdict-named : (count : ℕ) (bounds : List ℕ) (place : ℕ)
+    → (verdict count bounds .answer ≡ NotShown place) ↔ ((length bounds ≢ count) × (place ≡ suc (length bounds)))
+unfolding verdict
+verdict-named count bounds place = go (eqb (length bounds) count) refl
+  where
+    go : (t : Bool) → eqb (length bounds) count ≡ t
+        → (verdict count bounds .answer ≡ NotShown place) ↔ ((length bounds ≢ count) × (place ≡ suc (length bounds)))
+    go true q = (
+      λ e. let f : Shown ≡ NotShown place = rw (q, verdict) at e in let z : _≡_ {A = ℕ} 0 1 = cc in absurd (omega arith),
+      λ both. absurd (both .0 (eqb-true (length bounds) count q)),
+    )
+    go false q = (
+      λ e. let f : NotShown (suc (length bounds)) ≡ NotShown place = rw (q, verdict) at e in (eqb-false (length bounds) count q, cc),
+      λ both. rw (q, verdict) (ap NotShown (sym (both .1))),
+    )
+
+module _ (M k : ℕ) where
+  -- the bounds of lists that agree down to place k
+  same-bounds : (rows others : List Row) → take k rows ≡ take k others
+      → take k (boundsBelow M [] rows) ≡ take k (boundsBelow M [] others)
+  same-bounds rows others agree = sym (bounds-prefix M [] rows k) ∙ ap (boundsBelow M []) agree ∙ bounds-prefix M [] others k
+
+  -- a place down to k that is named in one is named in the other
+  same-named : (rows others : List Row) → take k rows ≡ take k others → (place : ℕ) → place ≤ k
+      → verdict (length rows) (boundsBelow M [] rows) .answer ≡ NotShown place
+      → verdict (length others) (boundsBelow M [] others) .answer ≡ NotShown place
+  same-named rows others agree place high e =
+      let bounds = boundsBelow M [] rows in
+      let bounds′ = boundsBelow M [] others in
+      let named = verdict-named (length rows) bounds place .0 e in
+      let few = walk-few (walk M [] rows) in
+      let rows-as-long = sym (length-take k rows) ∙ ap length agree ∙ length-take k others in
+      let bounds-as-long = sym (length-take k bounds) ∙ ap length (same-bounds rows others agree) ∙ length-take k bounds′ in
+      verdict-named (length others) bounds′ place .1 (λ equal. omega arith, omega arith)
+
+-- Rows below make no difference: two sound lists that agree down to place k are answered alike down to it.
+pub rows-below : (M k : ℕ) (rows others : List Row) → SoundList M rows → SoundList M others
+    → take k rows ≡ take k others → SameDownTo k (judged M rows) (judged M others)
+unfolding verdict
+rows-below M k rows others sound sound′ agree =
+    rw (judged-sound M rows sound, judged-sound M others sound′)
+    (record {
+      bounds = same-bounds M k rows others agree;
+      named = λ place high. (same-named M k rows others agree place high, same-named M k others rows (sym agree) place high);
+    })
