@@ -4,4 +4,6 @@ pub mod Choice
 pub mod Least
 pub mod Bound
 pub mod Jump
+pub mod Room
+pub mod Far
 pub mod Judgement
