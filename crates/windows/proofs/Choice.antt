@@ -10,8 +10,10 @@ use native.Mathlib.Nat.{div-lt-iff-lt-mul}
 use lib.Dec.{T, ltb, ltb→lt, lt→ltb}
 use lib.ListN.{length}
 use Rattle.laws.specs.Each.{Each}
-use Rattle.windows.specs.Window.{limit}
-use Rattle.windows.specs.Choice.{Bounded, Load, loads, carriers, total, Permitted, Passes, most, passes}
+use Rattle.quantities.specs.Row.{cost, gap}
+use Rattle.windows.specs.Window.{plain, carry, limit}
+use Rattle.windows.specs.Choice.{Bounded, Load, load, loads, carriers, total, Permitted, Passes, most, passes}
+use Rattle.windows.proofs.Window.{interference-le-limit}
 
 -- A choice that speaks of each row, with at most m carriers, and adds up to the most.
 pub record Attains (ls : List Load) (m : ℕ) : Type 0 where
@@ -125,3 +127,19 @@ unfolding most
 most-gain gain [] m each = omega arith
 most-gain gain (l ∷ ls) zero each = omega (arith, most-gain gain ls zero (each .1))
 most-gain gain (l ∷ ls) (suc m) each = omega (arith, most-gain gain ls m (each .1), most-gain gain ls (suc m) (each .1))
+
+-- no row takes more than the limit
+load-le-limit : (own x : ℕ) (b : Bounded) → Lighter (load own x b) (record { without = limit own x; carrying = limit own x })
+load-le-limit own x b =
+    record {
+      without = interference-le-limit own x (plain (cost (b .row)) (gap (b .row)) x);
+      carrying = interference-le-limit own x (carry (cost (b .row)) (gap (b .row)) (b .bound) x);
+    }
+
+-- so the sums of an engine stay small
+pub most-le-limit : (own x m : ℕ) (above : List Bounded) → most (loads own x above) m ≤ length above * limit own x
+unfolding most
+most-le-limit own x m [] = omega arith
+most-le-limit own x zero (b ∷ above) = omega (arith, load-le-limit own x b, most-le-limit own x zero above)
+most-le-limit own x (suc m) (b ∷ above) =
+    omega (arith, load-le-limit own x b, most-le-limit own x m above, most-le-limit own x (suc m) above)

@@ -4,5 +4,7 @@ pub mod Choice
 pub mod Least
 pub mod Bound
 pub mod Jump
+pub mod Room
+pub mod Far
 pub mod Judgement
 pub mod Prefix

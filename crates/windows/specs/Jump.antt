@@ -7,7 +7,7 @@ use Rattle.quantities.specs.Row.{cost, gap}
 use Rattle.windows.specs.Window.{carry}
 use Rattle.windows.specs.Choice.{Bounded, load, loads, most}
 
--- The row's own cost and a core's share of what the rows above take in the window x: no window passes that is shorter.
+-- The row's own cost and one core's share of what the rows above take in the window x. No window from x to before it passes.
 unfoldable pub next : (M own : ℕ) → List Bounded → ℕ → ℕ
 next M own above x = own + most (loads own x above) (M - 1) / M
 
