@@ -129,7 +129,8 @@ most-gain gain (l ∷ ls) zero each = omega (arith, most-gain gain ls zero (each
 most-gain gain (l ∷ ls) (suc m) each = omega (arith, most-gain gain ls m (each .1), most-gain gain ls (suc m) (each .1))
 
 -- no row takes more than the limit
-load-le-limit : (own x : ℕ) (b : Bounded) → Lighter (load own x b) (record { without = limit own x; carrying = limit own x })
+load-le-limit : (own x : ℕ) (b : Bounded)
+    → Lighter (load own x b) (record { without = limit own x; carrying = limit own x })
 load-le-limit own x b =
     record {
       without = interference-le-limit own x (plain (cost (b .row)) (gap (b .row)) x);

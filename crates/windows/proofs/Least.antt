@@ -34,16 +34,18 @@ outcome-none {P} {from} {to} = (told, nothing)
 abbrev pub NoneBefore : (P : ℕ → Type 0) → (from mid : ℕ) → Type 0
 NoneBefore P from mid = (y : ℕ) → from ≤ y → y < mid → P y → ⊥
 
--- A search that goes up: it starts with nothing behind it, leaves numbers behind that do not have the property, and ends
--- at one that has it, or beyond `to`.
+-- A search that goes up starts with nothing behind it, leaves behind numbers without the property, and ends at one
+-- that has it, or beyond `to`.
 pub before-start : (P : ℕ → Type 0) (from : ℕ) → NoneBefore P from from
 before-start P from y low less holds = omega arith
 
-pub before-on : {P : ℕ → Type 0} {from mid on : ℕ} → NoneBefore P from mid → NoneBefore P mid on → NoneBefore P from on
+pub before-on : {P : ℕ → Type 0} {from mid on : ℕ}
+    → NoneBefore P from mid → NoneBefore P mid on → NoneBefore P from on
 before-on {mid = mid} behind ahead y low less holds =
     elim (decLt y mid) [ yes l ↦ behind y low l holds | no l ↦ ahead y (omega arith) less holds ]
 
-pub before-least : {P : ℕ → Type 0} {from to x : ℕ} → from ≤ x → x ≤ to → NoneBefore P from x → P x → IsLeast P from to x
+pub before-least : {P : ℕ → Type 0} {from to x : ℕ}
+    → from ≤ x → x ≤ to → NoneBefore P from x → P x → IsLeast P from to x
 before-least low high before holds = record { low = low; high = high; holds = holds; first = before }
 
 pub before-none : {P : ℕ → Type 0} {from to x : ℕ} → to < x → NoneBefore P from x → NoneIn P from to
