@@ -1,0 +1,2 @@
+-- Laws of the engine's words.
+pub mod Above

@@ -1,0 +1,154 @@
+-- raised brings each number of carriers up to date, from the largest down, so that the one below is still the old one.
+use Prim.Native.Nat.{ℕ, zero, suc, _+_, _-_, _≤_, _<_, max}
+use native.Mathlib.Omega.{arith}
+use native.Mathlib.Decide.{ℕ-discrete as decEq}
+use mathlib.Core.Path.{_≡_, refl, _∙_}
+use mathlib.Core.List.{List}
+use borrow.Author.Needs.{needs}
+use lib.ListN.{length, getD, set, length-set}
+use lib.Seq.{getD-set-same, getD-set-other}
+use Rattle.analysis.specs.Engine.{raisedAt}
+use Rattle.analysis.proofs.raised.Statement.{statement}
+use Rattle.analysis.proofs.raised.Tie as tie
+use Rattle.analysis.proofs.raised.Reads as reads
+use Rattle.analysis.proofs.raised.Lts as lts
+use Rattle.analysis.proofs.larger.Reads as larger-reads
+
+-- the entries above m are the raised ones, the others are as they were
+record In (carriers without carrying : ℕ) (old mosts : List ℕ) (m : ℕ) : Type 0 where
+  le : m ≤ carriers
+  long : length mosts ≡ 16
+  done : (j : ℕ) → m < j → j ≤ carriers → getD mosts j 0 ≡ raisedAt old without carrying j
+  kept : (j : ℕ) → j ≤ m → getD mosts j 0 ≡ getD old j 0
+
+module _ (carriers without carrying : ℕ) (old mosts : List ℕ) where
+  -- the raised entry, where the old ones still stand at m and below it
+  raised-entry : (m n : ℕ) → m ≡ suc n → In carriers without carrying old mosts m
+      → max (without + getD mosts m 0) (carrying + getD mosts n 0) ≡ raisedAt old without carrying m
+  unfolding raisedAt
+  raised-entry m n e i = rw (i .kept m (omega arith), i .kept n (omega arith), e) refl
+
+  -- one turn: the entry m is raised
+  turn : (m n : ℕ) → m ≡ suc n → carriers < 16 → In carriers without carrying old mosts m
+      → In carriers without carrying old (set mosts m (max (without + getD mosts m 0) (carrying + getD mosts n 0))) n
+  turn m n e few i =
+      let inside : m < length mosts = omega arith in
+      let best = max (without + getD mosts m 0) (carrying + getD mosts n 0) in
+      record {
+        le = omega arith;
+        long = length-set mosts m best ∙ i .long;
+        done = λ j low high.
+            elim (decEq j m) [
+              | yes same ↦ rw (same, getD-set-same mosts m best 0 inside) (raised-entry m n e i)
+              | no other ↦ rw (getD-set-other mosts m j best 0 other) (i .done j (omega arith) high)
+            ];
+        kept = λ j low. rw (getD-set-other mosts m j best 0 (λ same. omega arith)) (i .kept j (omega arith));
+      }
+
+  -- after the last turn the entry 0 is raised
+  last : carriers < 16 → In carriers without carrying old mosts 0
+      → (m : ℕ) → m ≤ carriers → getD (set mosts 0 (without + getD mosts 0 0)) m 0 ≡ raisedAt old without carrying m
+  unfolding raisedAt
+  last few i zero h = let inside : 0 < length mosts = omega arith in rw (getD-set-same mosts 0 (without + getD mosts 0 0) 0 inside, i .kept 0 (omega arith)) refl
+  last few i (suc m) h = rw (getD-set-other mosts 0 (suc m) (without + getD mosts 0 0) 0 (λ same. omega arith)) (i .done (suc m) (omega arith) h)
+
+abbrev Inv-loop : tie.InvT-loop
+Inv-loop carriers without carrying mosts₀ m₀ mosts m = In carriers without carrying mosts₀ mosts m
+
+abbrev μ-loop : tie.MeasureT-loop
+μ-loop carriers without carrying mosts₀ m₀ mosts m = m
+
+loop-holds : tie.Need-loop-holds Inv-loop μ-loop
+loop-holds c = search needs
+
+mul-staying : tie.Need-mul-staying Inv-loop μ-loop
+mul-staying c = search needs
+
+array-read-staying : tie.Need-array-read-staying Inv-loop μ-loop
+array-read-staying c = search needs
+
+add-staying : tie.Need-add-staying Inv-loop μ-loop
+add-staying c =
+    let i = c .before .loop .inv in
+    let m = c .before .loop .m in
+    record { fits = omega (arith, i .kept m (omega arith), c .before .before .pre .small m (omega arith)) }
+
+sub-coming : tie.Need-sub-coming Inv-loop μ-loop
+sub-coming c = search needs
+
+mul-coming : tie.Need-mul-coming Inv-loop μ-loop
+mul-coming c = search needs
+
+array-read-coming : tie.Need-array-read-coming Inv-loop μ-loop
+array-read-coming c = search needs
+
+add-coming : tie.Need-add-coming Inv-loop μ-loop
+add-coming c =
+    let i = c .before .loop .inv in
+    let n = c .before .loop .m - 1 in
+    record { fits = omega (arith, i .kept n (omega arith), c .before .before .pre .small n (omega arith)) }
+
+larger-requires : tie.Need-larger-requires Inv-loop μ-loop
+larger-requires c κs = search needs
+
+mul-mosts : tie.Need-mul-mosts Inv-loop μ-loop
+mul-mosts c = search needs
+
+array-write-mosts : tie.Need-array-write-mosts Inv-loop μ-loop
+array-write-mosts c = search needs
+
+sub-m : tie.Need-sub-m Inv-loop μ-loop
+sub-m c = search needs
+
+loop-less : tie.Need-loop-less Inv-loop μ-loop
+loop-less c = search needs
+
+loop-again : tie.Need-loop-again Inv-loop μ-loop
+loop-again c =
+    let a = c .before .before .before .args in
+    let m = c .before .before .loop .m in
+    rw (c .larger .ensures)
+    (turn (a .carriers) (a .without) (a .carrying) (a .t1) (c .before .before .loop .mosts) m (m - 1) (omega arith) (omega arith) (c .before .before .loop .inv))
+
+array-read-mosts : tie.Need-array-read-mosts Inv-loop μ-loop
+array-read-mosts c = search needs
+
+add-mosts : tie.Need-add-mosts Inv-loop μ-loop
+add-mosts c =
+    let i = c .before .loop .inv in
+    record { fits = omega (arith, i .kept 0 (omega arith), c .before .before .pre .small 0 (omega arith)) }
+
+array-write-mosts-2 : tie.Need-array-write-mosts-2 Inv-loop μ-loop
+array-write-mosts-2 c = search needs
+
+returns : tie.Need-returns Inv-loop μ-loop
+returns c =
+    let a = c .before .before .args in
+    let m = c .before .loop .m in
+    let over : m ≡ 0 = omega arith in
+    last (a .carriers) (a .without) (a .carrying) (a .t1) (c .before .loop .mosts) (omega arith) (rw over at (c .before .loop .inv))
+
+pub raised-spec : {M : Type 1} → statement M
+raised-spec =
+    tie.close
+    (tie.spec
+    Inv-loop
+    μ-loop
+    loop-holds
+    mul-staying
+    array-read-staying
+    add-staying
+    sub-coming
+    mul-coming
+    array-read-coming
+    add-coming
+    larger-requires
+    mul-mosts
+    array-write-mosts
+    sub-m
+    loop-less
+    loop-again
+    array-read-mosts
+    add-mosts
+    array-write-mosts-2
+    returns)

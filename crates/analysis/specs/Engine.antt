@@ -1,0 +1,45 @@
+-- What the engine's inner functions ask for and leave. No promise is made in these words.
+use Prim.Native.Nat.{ℕ, zero, suc, _+_, _*_, _≤_, _<_, max}
+use mathlib.Core.Path.{_≡_}
+use mathlib.Core.Option.{Option, none, some}
+use mathlib.Core.List.{List}
+use lib.ListN.{getD}
+use Rattle.laws.specs.Each.{Each}
+use Rattle.quantities.specs.Limits.{rowCapacity, coreLimit, largestGap}
+use Rattle.quantities.specs.Table.{rowsOf}
+use Rattle.quantities.specs.declared.Table.{Table}
+use Rattle.quantities.specs.declared.Ticks.{Ticks}
+use Rattle.windows.specs.Choice.{Bounded, InRange}
+use Rattle.windows.specs.Judgement.{aboveAt}
+use Rattle.analysis.specs.Analysis.{numbers, ticks}
+use Rattle.analysis.specs.declared.Found.{Found}
+use Rattle.analysis.specs.declared.Found.the-variants.{At, Nothing}
+
+-- the rows of a table above index k, with the bounds found so far, the nearest first
+abbrev pub above : Table → List Ticks → ℕ → List Bounded
+above table bounds k = aboveAt (rowsOf table) (numbers bounds) k
+
+-- The cores and the count pass the checks, and the rows above index k have bounds in range.
+pub record Ready (cores : ℕ) (table : Table) (bounds : List Ticks) (k : ℕ) : Type 0 where
+  pub some-cores : 0 < cores
+  pub few-cores : cores ≤ coreLimit
+  pub few-rows : table .count ≤ rowCapacity
+  pub within : k ≤ table .count
+  pub range : Each InRange (above table bounds k)
+
+-- The most that rows can take with each number of carriers up to `carriers`, when one row more comes with this load.
+unfoldable pub raisedAt : List ℕ → (without carrying : ℕ) → ℕ → ℕ
+raisedAt mosts without carrying zero = without + getD mosts 0 0
+raisedAt mosts without carrying (suc m) = max (without + getD mosts (suc m) 0) (carrying + getD mosts m 0)
+
+-- What is raised stays far below what a number holds.
+pub record CanRaise (mosts : List ℕ) (carriers without carrying : ℕ) : Type 0 where
+  pub few : carriers < coreLimit
+  pub small-without : without ≤ suc largestGap
+  pub small-carrying : carrying ≤ suc largestGap
+  pub small : (m : ℕ) → m ≤ carriers → getD mosts m 0 ≤ rowCapacity * suc largestGap
+
+-- a window, or none, as the code answers it
+unfoldable pub foundOf : Option ℕ → Found
+foundOf none = Nothing
+foundOf (some x) = At (ticks x)
