@@ -2,7 +2,8 @@
 use Prim.Native.Nat.{ℕ, zero, suc, _+_, _*_, _/_, _%_, _≤_, _<_}
 use mathlib.Core.Path.{_≡_, ap}
 use native.Mathlib.Decide.{decLe}
-use native.Mathlib.Nat.{le-div-iff-mul-le, div-mul-le-self, le-trans, le-dest, lt-of-not-le, mul-le-mul-left, mul-le-mul-right, div-add-mod'}
+use native.Mathlib.Nat.{le-div-iff-mul-le, div-mul-le-self, div-add-mod', mul-le-mul-left, mul-le-mul-right}
+use native.Mathlib.Nat.{le-trans, le-dest, lt-of-not-le}
 use native.Mathlib.Omega.{arith}
 
 -- a larger number has no smaller quotient
