@@ -3,6 +3,7 @@ use Prim.Native.Nat.{ℕ, zero, suc}
 use mathlib.Core.Path.{_≡_, refl}
 use mathlib.Core.List.{List, [], _∷_, _++_}
 use lib.ListN.{getD, replicate}
+use Rattle.laws.specs.Each.{Each}
 
 module _ {A : Type 0} where
   -- where the default is repeated, the default is read at each index
@@ -16,3 +17,8 @@ module _ {A : Type 0} where
   getD-padded [] n i d = getD-repeated n i d
   getD-padded (x ∷ xs) n zero d = refl
   getD-padded (x ∷ xs) n (suc i) d = getD-padded xs n i d
+
+  -- what follows from a property of each element holds of each
+  pub each-map : {P Q : A → Type 0} → ((x : A) → P x → Q x) → (xs : List A) → Each P xs → Each Q xs
+  each-map f [] each = tt
+  each-map f (x ∷ xs) each = (f x (each .0), each-map f xs (each .1))
