@@ -27,16 +27,22 @@ pub record InRun (M : ℕ) (list : List Row) (bounds : List ℕ) (b : Bench) : T
 
 module _ {M : ℕ} {list : List Row} {bounds : List ℕ} where
   -- a release, taken or refused
-  run-release : (b : Bench) (place demand : ℕ) → InRun M list bounds b → InRun M list bounds (release b place demand .bench)
+  run-release : (b : Bench) (place demand : ℕ) → InRun M list bounds b
+      → InRun M list bounds (release b place demand .bench)
   unfolding release unless started
   run-release b place demand run = go (firstRefusal (releaseTests b place demand)) refl
     where
       go : (refusal : Option Refusal) → firstRefusal (releaseTests b place demand) ≡ refusal
-          → InRun M list bounds (unless refusal (record { outcome = Taken; finishes = []; bench = started b place demand }) b .bench)
+          → InRun M list bounds
+          (unless refusal (record { outcome = Taken; finishes = []; bench = started b place demand }) b .bench)
       go none e =
           let allowed : Allowed (b .now .0) demand (getD list (place - 1) noRow) (stateAt b place) =
           rw (run .rows-are) at (release-allowed b place demand e) in
-          record { cores-are = run .cores-are; rows-are = run .rows-are; inv = inv-release (place - 1) allowed (run .inv) }
+          record {
+            cores-are = run .cores-are;
+            rows-are = run .rows-are;
+            inv = inv-release (place - 1) allowed (run .inv);
+          }
       go (some why) e = run
 
   -- a tick, taken or refused
@@ -58,14 +64,17 @@ module _ {M : ℕ} {list : List Row} {bounds : List ℕ} where
   run-call b ticks = run-tick b
 
   -- every state that a history leads to
-  pub run-after : (b : Bench) (calls : List Call) → InRun M list bounds b → InRun M list bounds (after b calls)
+  pub run-after : (b : Bench) (calls : List Call) → InRun M list bounds b
+      → InRun M list bounds (after b calls)
   unfolding after
   run-after b [] run = run
   run-after b (call ∷ calls) run = run-after (doCall b call .bench) calls (run-call b call run)
 
   -- what holds of each call from each bench in a run holds of each step of a history
-  pub run-steps : (P : Step → Type 0) → ((b : Bench) (call : Call) → InRun M list bounds b → P (doCall b call))
+  pub run-steps : (P : Step → Type 0) →
+      ((b : Bench) (call : Call) → InRun M list bounds b → P (doCall b call))
       → (b : Bench) (calls : List Call) → InRun M list bounds b → Each P (steps b calls)
   unfolding steps
   run-steps P each b [] run = tt
-  run-steps P each b (call ∷ calls) run = (each b call run, run-steps P each (doCall b call .bench) calls (run-call b call run))
+  run-steps P each b (call ∷ calls) run =
+      (each b call run, run-steps P each (doCall b call .bench) calls (run-call b call run))

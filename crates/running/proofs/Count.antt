@@ -1,4 +1,4 @@
--- The count: a window as long as the bound has fewer full ticks than hold the row back, so no window gets that long.
+-- The count: the rows above cannot fill a window as long as the bound, so no window gets that long.
 use Prim.Native.Nat.{ℕ, zero, suc, _+_, _-_, _*_, _≤_, _<_, min}
 use mathlib.Core.Path.{_≡_, refl, ap, sym}
 use mathlib.Core.Bool.{Bool, true, false}
@@ -25,23 +25,30 @@ cut-one : (v busy limit : ℕ) → v ≤ busy → limit ≤ busy → limit * v �
 cut-one v busy limit in-busy short =
     elim (decLe v limit) [
       | yes h ↦ let e : min v limit ≡ v = omega arith in rw e (mul-le-mul-right v short)
-      | no h ↦ let e : min v limit ≡ limit = omega arith in rw e (omega (arith, mul-le-mul-left limit in-busy))
+      | no h ↦
+          let e : min v limit ≡ limit = omega arith in
+          rw e (omega (arith, mul-le-mul-left limit in-busy))
     ]
 
-cut-share : {now start busy : ℕ} (limit : ℕ) {above : List Bounded} {up : List RowState} {fs : List Bool} {vs : List ℕ}
+cut-share : {now start busy : ℕ} (limit : ℕ) {above : List Bounded} {up : List RowState} {fs : List Bool}
+    {vs : List ℕ}
     → limit ≤ busy → Above now start busy above up fs vs → limit * sum vs ≤ busy * cut limit vs
 cut-share limit short no-rows = omega arith
 cut-share {busy} limit short (more {v} w work-v busy-v phase rows) =
     omega (arith, cut-one v busy limit busy-v short, cut-share limit short rows)
 
 -- M rows in each of `busy` ticks are at least M rows in each tick up to the limit
-cut-total : {now start busy : ℕ} (M limit : ℕ) {above : List Bounded} {up : List RowState} {fs : List Bool} {vs : List ℕ}
-    → limit ≤ busy → 0 < busy → sum vs ≡ M * busy → Above now start busy above up fs vs → M * limit ≤ cut limit vs
+cut-total : {now start busy : ℕ} (M limit : ℕ) {above : List Bounded} {up : List RowState} {fs : List Bool}
+    {vs : List ℕ}
+    → limit ≤ busy → 0 < busy → sum vs ≡ M * busy → Above now start busy above up fs vs
+    → M * limit ≤ cut limit vs
 cut-total {busy} M limit {vs} short some full rows =
-    le-of-mul-le-mul-left {k = busy} (omega (arith, cut-share limit short rows, ap (λ n. limit * n) full)) some
+    let whole = ap (λ n. limit * n) full in
+    le-of-mul-le-mul-left {k = busy} (omega (arith, cut-share limit short rows)) some
 
 -- and no more than the rows above can take in the window under the choice that the flags are
-cut-le-total : {now start busy : ℕ} (own x : ℕ) {above : List Bounded} {up : List RowState} {fs : List Bool} {vs : List ℕ}
+cut-le-total : {now start busy : ℕ} (own x : ℕ) {above : List Bounded} {up : List RowState} {fs : List Bool}
+    {vs : List ℕ}
     → Each InRange above → now ≡ start + x → Above now start busy above up fs vs
     → cut (limit own x) vs ≤ total (loads own x above) fs
 unfolding interference
@@ -51,10 +58,13 @@ cut-le-total own x ranges span (more {f = false} w work-v busy-v phase rows) =
 cut-le-total own x ranges span (more {f = true} w work-v busy-v phase rows) =
     omega (arith, work-le x (ranges .0) span phase, cut-le-total own x (ranges .1) span rows)
 
--- A window in which the row has not run its whole cost stays shorter than the bound. If it were as long, it would have
--- at least `limit` full ticks, in which the rows above took M · limit; but the bound passes, so they take less.
-pub short : {M now start busy own : ℕ} {b : Bounded} {above : List Bounded} {up : List RowState} {fs : List Bool} {vs : List ℕ}
-    → Each InRange above → Shown M above b → carriers fs < M → sum vs ≡ M * busy → Above now start busy above up fs vs
+-- A window in which the row has not run its whole cost stays shorter than the bound. If it were as long, it
+-- would have at least `limit` full ticks, and the rows above took M · limit in them; but the bound passes, so
+-- they take less.
+pub short : {M now start busy own : ℕ} {b : Bounded} {above : List Bounded} {up : List RowState}
+    {fs : List Bool} {vs : List ℕ}
+    → Each InRange above → Shown M above b → carriers fs < M → sum vs ≡ M * busy
+    → Above now start busy above up fs vs
     → own < cost (b .row) → now ≡ start + (busy + own) → busy + own ≤ b .bound → busy + own < b .bound
 unfolding limit
 short {M} {now} {start} {busy} {own} {b} {above} {fs} ranges shown few full rows unfinished span le =

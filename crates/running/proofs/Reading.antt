@@ -28,7 +28,8 @@ pub record RowFacts (now : ℕ) (row : Row) (bound : ℕ) (st : RowState) : Type
   pub known : 0 < work st → ever st ≡ true
   pub early : 0 < work st → now < came st + bound
 
-pub inv-at : {M now : ℕ} {above : List Bounded} {up : List RowState} {rows : List Row} {bounds : List ℕ} {states : List RowState}
+pub inv-at : {M now : ℕ} {above : List Bounded} {up : List RowState} {rows : List Row} {bounds : List ℕ}
+    {states : List RowState}
     → Inv M now above up rows bounds states → (k : ℕ) → k < length bounds
     → RowFacts now (getD rows k noRow) (getD bounds k 0) (getD states k idle)
 inv-at done k h = absurd (omega arith)
@@ -39,7 +40,8 @@ inv-at (next shown kept window below) (suc k) h = inv-at below k (omega arith)
 -- a poll that ended at this place or below, of a row with one of these bounds, was in time
 abbrev pub Ended : (place : ℕ) → List ℕ → Finish → Type 0
 Ended place bounds poll =
-    (place ≤ poll .place) × ((k : ℕ) → k < length bounds → poll .place ≡ place + k → poll .response .0 ≤ getD bounds k 0)
+    (place ≤ poll .place)
+    × ((k : ℕ) → k < length bounds → poll .place ≡ place + k → poll .response .0 ≤ getD bounds k 0)
 
 -- where there are no bounds, only the places matter
 ended-unbounded : (instant place : ℕ) (us : List ℕ) (states : List RowState)
@@ -48,7 +50,8 @@ unfolding finished finishOf
 ended-unbounded instant place [] states = tt
 ended-unbounded instant place (u ∷ us) [] = tt
 ended-unbounded instant place (u ∷ us) (st ∷ states) =
-    go (ends u st) (each-map (λ poll h. omega arith) (finished instant (suc place) us states) (ended-unbounded instant (suc place) us states))
+    let below = ended-unbounded instant (suc place) us states in
+    go (ends u st) (each-map (λ poll h. omega arith) (finished instant (suc place) us states) below)
   where
     go : (e : Bool) → Each (λ (poll : Finish). place ≤ poll .place) (finished instant (suc place) us states)
         → Each (λ (poll : Finish). place ≤ poll .place)
@@ -60,10 +63,12 @@ ended-unbounded instant place (u ∷ us) (st ∷ states) =
     go false below = below
 
 -- a poll below stands one place lower
-ended-below : (place r : ℕ) (bounds : List ℕ) (poll : Finish) → Ended (suc place) bounds poll → Ended place (r ∷ bounds) poll
+ended-below : (place r : ℕ) (bounds : List ℕ) (poll : Finish) → Ended (suc place) bounds poll
+    → Ended place (r ∷ bounds) poll
 ended-below place r bounds poll (low, each) = (omega arith, at)
   where
-    at : (k : ℕ) → k < suc (length bounds) → poll .place ≡ place + k → poll .response .0 ≤ getD (r ∷ bounds) k 0
+    at : (k : ℕ) → k < suc (length bounds) → poll .place ≡ place + k
+        → poll .response .0 ≤ getD (r ∷ bounds) k 0
     at zero h e = absurd (omega arith)
     at (suc k) h e = each k (omega arith) (omega arith)
 
@@ -83,15 +88,18 @@ ended-here now place free r bounds st early ended = (omega arith, at)
     both true c e = refl
     both false c e = e
 
-    at : (k : ℕ) → k < suc (length bounds) → place ≡ place + k → since (suc now) (st .last) ≤ getD (r ∷ bounds) k 0
+    at : (k : ℕ) → k < suc (length bounds) → place ≡ place + k
+        → since (suc now) (st .last) ≤ getD (r ∷ bounds) k 0
     at zero h e =
         let got = unit-facts free (work st) in
-        let served = ltb-true 0 (unit free (work st)) (both (ltb 0 (unit free (work st))) (eqb (work st - unit free (work st)) 0) ended) in
+        let u = unit free (work st) in
+        let served = ltb-true 0 u (both (ltb 0 u) (eqb (work st - u) 0) ended) in
         since-le now r (st .last) (early (omega arith))
     at (suc k) h e = absurd (omega arith)
 
 -- Every poll that ends in a tick was in time.
-pub ended-in-time : {M now : ℕ} {above : List Bounded} {up : List RowState} {rows : List Row} {bounds : List ℕ} {states : List RowState}
+pub ended-in-time : {M now : ℕ} {above : List Bounded} {up : List RowState} {rows : List Row}
+    {bounds : List ℕ} {states : List RowState}
     → Inv M now above up rows bounds states → (place free : ℕ)
     → Each (Ended place bounds) (finished (suc now) place (units free (take (length rows) states)) states)
 unfolding finished units
@@ -110,6 +118,7 @@ ended-in-time {now} (next {rows} {r} {bounds} {st} {states} shown kept window be
     polls = finished (suc now) (suc place) (units (free - u) (take (length rows) states)) states
 
     go : (e : Bool) → ends u st ≡ e → Each (Ended place (r ∷ bounds)) polls
-        → Each (Ended place (r ∷ bounds)) (elim e [ true ↦ finishOf (suc now) place st ∷ polls | false ↦ polls ])
+        → Each (Ended place (r ∷ bounds))
+        (elim e [ true ↦ finishOf (suc now) place st ∷ polls | false ↦ polls ])
     go true e rest = (ended-here now place free r bounds st (in-time window) e, rest)
     go false e rest = rest

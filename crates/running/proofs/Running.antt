@@ -46,7 +46,8 @@ use Rattle.running.proofs.Start.{inv-start, judged-walk, opened-means}
 use Rattle.running.proofs.Calls.{InRun, run-after, run-steps}
 
 -- a release that came less than the bound ago
-less-ago : (now bound : ℕ) (last : Last) → isAt last ≡ true → now < instantOf last + bound → LessAgo now bound last
+less-ago : (now bound : ℕ) (last : Last) → isAt last ≡ true → now < instantOf last + bound
+    → LessAgo now bound last
 less-ago now bound Never at h = let z : _≡_ {A = ℕ} 0 1 = cc in absurd (omega arith)
 less-ago now bound (At at) is h = h
 
@@ -63,7 +64,8 @@ module _ {M : ℕ} {list : List Row} {bounds : List ℕ} (b : Bench) (run : InRu
       less-ago (b .now .0) (boundAt bounds place) (stateAt b place .last) (row .known busy) (row .early busy)
 
   -- a release that keeps the gap finds the last poll over, since the gap is no less than the bound
-  none-unfinished : (place : ℕ) → 1 ≤ place → place ≤ length bounds → (why : Refusal) → UnfinishedAt b place why → ⊥
+  none-unfinished : (place : ℕ) → 1 ≤ place → place ≤ length bounds → (why : Refusal)
+      → UnfinishedAt b place why → ⊥
   none-unfinished place first within why unfinished =
       let row = at-place place first within in
       let range = row .range in
@@ -78,13 +80,15 @@ module _ {M : ℕ} {list : List Row} {bounds : List ℕ} (b : Bench) (run : InRu
       go (firstRefusal (releaseTests b other demand)) refl (refuses .says)
     where
       go : (refusal : Option Refusal) → firstRefusal (releaseTests b other demand) ≡ refusal
-          → unless refusal (record { outcome = Taken; finishes = []; bench = started b other demand }) b .outcome
+          → unless refusal
+          (record { outcome = Taken; finishes = []; bench = started b other demand }) b .outcome
           ≡ Refused (refuses .why)
           → ⊥
       go none e says = let z : _≡_ {A = ℕ} 0 1 = cc in omega arith
       go (some why) e says =
           let is : why ≡ refuses .why = cc in
-          let unfinished = release-unfinished b other demand (refuses .why) (rw is at e) (refuses .number-is) in
+          let found : firstRefusal (releaseTests b other demand) ≡ some (refuses .why) = rw is at e in
+          let unfinished = release-unfinished b other demand (refuses .why) found (refuses .number-is) in
           let named : placeOf (Unfinished other) ≡ place = rw (unfinished .why-is) at (refuses .place-is) in
           none-unfinished other (omega arith) (omega arith) (refuses .why) unfinished
 
@@ -100,7 +104,8 @@ module _ {M : ℕ} {list : List Row} {bounds : List ℕ} (b : Bench) (run : InRu
           tick-refusal b (refuses .why) (rw is at e) (refuses .number-is)
 
   -- the polls that end in a tick
-  tick-ends : (place : ℕ) → 1 ≤ place → place ≤ length bounds → EndsInTime place (boundAt bounds place) (tick b)
+  tick-ends : (place : ℕ) → 1 ≤ place → place ≤ length bounds
+      → EndsInTime place (boundAt bounds place) (tick b)
   unfolding tick unless taken served
   tick-ends place first within = go (firstRefusal (tickTests b))
     where
@@ -118,22 +123,28 @@ module _ {M : ℕ} {list : List Row} {bounds : List ℕ} (b : Bench) (run : InRu
   release-ends place bound other demand = go (firstRefusal (releaseTests b other demand))
     where
       go : (refusal : Option Refusal)
-          → EndsInTime place bound (unless refusal (record { outcome = Taken; finishes = []; bench = started b other demand }) b)
+          → EndsInTime place bound
+          (unless refusal (record { outcome = Taken; finishes = []; bench = started b other demand }) b)
       go none = tt
       go (some why) = tt
 
 -- each step of a history
-module _ {M : ℕ} {list : List Row} {bounds : List ℕ} (place : ℕ) (first : 1 ≤ place) (within : place ≤ length bounds) where
-  call-ends : (b : Bench) (call : Call) → InRun M list bounds b → EndsInTime place (boundAt bounds place) (doCall b call)
+module _ {M : ℕ} {list : List Row} {bounds : List ℕ} (place : ℕ)
+    (first : 1 ≤ place) (within : place ≤ length bounds) where
+  call-ends : (b : Bench) (call : Call) → InRun M list bounds b
+      → EndsInTime place (boundAt bounds place) (doCall b call)
   call-ends b (releases other demand) run = release-ends b run place (boundAt bounds place) other demand
   call-ends b ticks run = tick-ends b run place first within
 
-  call-not-unfinished : (b : Bench) (call : Call) → InRun M list bounds b → NotUnfinished place (doCall b call)
-  call-not-unfinished b (releases other demand) run = release-not-unfinished b run place first within other demand
+  call-not-unfinished : (b : Bench) (call : Call) → InRun M list bounds b
+      → NotUnfinished place (doCall b call)
+  call-not-unfinished b (releases other demand) run =
+      release-not-unfinished b run place first within other demand
   call-not-unfinished b ticks run = tick-not-unfinished b run place
 
   -- a bound holds in each history from a bench in a run
-  run-holds : (start : Bench) (calls : List Call) → InRun M list bounds start → Holds start calls place (boundAt bounds place)
+  run-holds : (start : Bench) (calls : List Call) → InRun M list bounds start
+      → Holds start calls place (boundAt bounds place)
   run-holds start calls run =
       let end = run-after start calls run in
       record {
@@ -162,4 +173,5 @@ pub bounds-hold : BoundsHold
 bounds-hold cores table start is calls place first within =
     let opened = opened-means cores table start is in
     let sound = sound-list-means cores (rowsOf table) .0 (opened .sound) in
-    rw (opened .empty) (run-holds place first within (emptyBench cores table) calls (run-start cores table sound))
+    rw (opened .empty)
+    (run-holds place first within (emptyBench cores table) calls (run-start cores table sound))

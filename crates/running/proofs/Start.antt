@@ -21,7 +21,8 @@ use Rattle.bench.specs.declared.RowState.{RowState}
 use Rattle.bench.specs.declared.Bench.{Bench}
 use Rattle.bench.specs.Record.{idle}
 use Rattle.bench.specs.Step.{emptyBench, openedAfter, opened}
-use Rattle.running.proofs.Invariant.{Keeps, quiet, Above, more, resting, Window, Shown, Inv, done, next, sum}
+use Rattle.running.proofs.Invariant.{Keeps, quiet, Above, more, resting, sum}
+use Rattle.running.proofs.Invariant.{Window, Shown, Inv, done, next}
 
 -- Rows above of which none has done anything.
 pub record Untouched (above : List Bounded) (up : List RowState) : Type 0 where
@@ -31,7 +32,8 @@ pub record Untouched (above : List Bounded) (up : List RowState) : Type 0 where
   pub no-work : sum vs ≡ 0
   pub rows : Above 0 0 0 above up flags vs
 
-untouched-below : {b : Bounded} {above : List Bounded} {up : List RowState} → Untouched above up → Untouched (b ∷ above) (idle ∷ up)
+untouched-below : {b : Bounded} {above : List Bounded} {up : List RowState} → Untouched above up
+    → Untouched (b ∷ above) (idle ∷ up)
 untouched-below still =
     record {
       flags = false ∷ still .flags;
@@ -42,7 +44,8 @@ untouched-below still =
     }
 
 -- the window of a row on an empty bench begins at instant 0
-window-start : {M : ℕ} {b : Bounded} {above : List Bounded} {up : List RowState} → 0 < M → InRange b → Untouched above up
+window-start : {M : ℕ} {b : Bounded} {above : List Bounded} {up : List RowState} → 0 < M → InRange b
+    → Untouched above up
     → Window M 0 b idle above up
 window-start cores range still =
     record {
@@ -60,12 +63,16 @@ window-start cores range still =
     }
 
 -- a least window is a bound that is right
-bound-shown : {M r : ℕ} {above : List Bounded} {row : Row} → SoundRow row → IsBound M above row r → Shown M above (bounded row r)
+bound-shown : {M r : ℕ} {above : List Bounded} {row : Row} → SoundRow row → IsBound M above row r
+    → Shown M above (bounded row r)
 bound-shown sound least =
     record {
       range = record { works = sound .some-work; low = least .low; high = omega arith };
       passes = least .holds;
     }
+
+keeps-idle : (row : Row) (r : ℕ) → Keeps 0 (bounded row r) idle
+keeps-idle row r = record { fits = omega arith; past = omega arith; known = λ left. absurd (omega arith) }
 
 pub inv-start : {M : ℕ} {above : List Bounded} {up : List RowState} {rows : List Row} {bounds : List ℕ}
     → 0 < M → Untouched above up → Each SoundRow rows → Walk M above rows bounds → (n : ℕ) → length rows ≤ n
@@ -75,8 +82,7 @@ inv-start cores still sound (stop unshown) n fits = done
 inv-start cores still sound (on least below) zero fits = absurd (omega arith)
 inv-start cores still sound (on {row} {b = r} least below) (suc n) fits =
     let shown = bound-shown (sound .0) least in
-    let kept : Keeps 0 (bounded row r) idle = record { fits = omega arith; past = omega arith; known = λ some. absurd (omega arith) } in
-    next shown kept (window-start cores (shown .range) still)
+    next shown (keeps-idle row r) (window-start cores (shown .range) still)
     (inv-start cores (untouched-below still) (sound .1) below n (omega arith))
 
 -- the bounds of a sound list are least windows, row by row
@@ -89,7 +95,8 @@ pub record Opened (cores : ℕ) (table : Table) (start : Bench) : Type 0 where
   pub sound : listFault cores (rowsOf table) ≡ none
   pub empty : start ≡ emptyBench cores table
 
-pub opened-means : (cores : ℕ) (table : Table) (start : Bench) → opened cores table ≡ some start → Opened cores table start
+pub opened-means : (cores : ℕ) (table : Table) (start : Bench) → opened cores table ≡ some start
+    → Opened cores table start
 unfolding opened openedAfter
 opened-means cores table start is = go (listFault cores (rowsOf table)) refl
   where

@@ -1,4 +1,4 @@
--- A tick keeps the invariant: a full tick and one that serves the row lengthen its window, any other begins it anew.
+-- A tick keeps the invariant: a full one, or one that serves the row, lengthens its window; others begin it anew.
 use Prim.Native.Nat.{ℕ, zero, suc, _+_, _-_, _*_, _≤_, _<_, min}
 use mathlib.Core.Path.{_≡_, refl}
 use mathlib.Core.Bool.{Bool, true, false}
@@ -31,9 +31,11 @@ use Rattle.running.proofs.Above.{above-full, above-slack, anew, ranges}
 use Rattle.running.proofs.Count.{short}
 
 -- a row's state after u units
-pub keeps-tick : {now : ℕ} (u : ℕ) {b : Bounded} {st : RowState} → Keeps now b st → Keeps (suc now) b (less u st)
+pub keeps-tick : {now : ℕ} (u : ℕ) {b : Bounded} {st : RowState} → Keeps now b st
+    → Keeps (suc now) b (less u st)
 unfolding less
-keeps-tick u kept = record { fits = omega arith; past = omega arith; known = λ some. kept .known (omega arith) }
+keeps-tick u kept =
+    record { fits = omega arith; past = omega arith; known = λ left. kept .known (omega arith) }
 
 -- a row with work left came less than its bound ago
 pub in-time : {M now : ℕ} {b : Bounded} {st : RowState} {above : List Bounded} {up : List RowState}
@@ -45,7 +47,8 @@ in-time {now} {b} {st} window some = go (window .mine)
     go (working left since part) = omega arith
 
 -- a row in its window has not yet run its whole cost
-own-short : {start own : ℕ} {b : Bounded} {st : RowState} → InRange b → Mine start b st own → own < cost (b .row)
+own-short : {start own : ℕ} {b : Bounded} {st : RowState} → InRange b → Mine start b st own
+    → own < cost (b .row)
 own-short range (resting over unserved) = omega arith
 own-short range (working left since part) = omega arith
 
@@ -146,9 +149,11 @@ module _ {M now : ℕ} {b : Bounded} {st : RowState} {above : List Bounded} {up 
       go (suc free) e (suc left) l = window-own facts shown window (omega arith) (omega arith)
 
 -- A tick from the top: the rows above have got their units, and leave these cores to the rows here.
-pub inv-tick : {M now : ℕ} {above : List Bounded} {up : List RowState} {rows : List Row} {bounds : List ℕ} {states : List RowState}
+pub inv-tick : {M now : ℕ} {above : List Bounded} {up : List RowState} {rows : List Row} {bounds : List ℕ}
+    {states : List RowState}
     → Facts now above up → Inv M now above up rows bounds states
-    → Inv M (suc now) above (servedUp M up) rows bounds (worked (units (spare M up) (take (length rows) states)) states)
+    → Inv M (suc now) above (servedUp M up) rows bounds
+    (worked (units (spare M up) (take (length rows) states)) states)
 unfolding units worked
 inv-tick facts done = done
 inv-tick {M} {up} facts (next {st} shown kept window below) =

@@ -1,2 +1,3 @@
--- The promise of the tool: the bound holds on a running board.
+-- The promise of the tool, and the case in which a bound is met exactly.
 pub mod Running
+pub mod Exact

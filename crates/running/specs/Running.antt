@@ -1,4 +1,4 @@
--- Demand 3, the reason for the tool: on a running board no poll of a row with a bound takes longer than the bound.
+-- Demand 3, the reason for the tool: on a running board no poll of a row takes longer than the row's bound.
 use Prim.Native.Nat.{ℕ, _+_, _-_, _≤_, _<_}
 use mathlib.Core.Path.{_≡_}
 use mathlib.Core.List.{List}
@@ -32,7 +32,7 @@ abbrev pub LessAgo : (now bound : ℕ) → Last → Type 0
 LessAgo now bound Never = ⊥
 LessAgo now bound (At at) = now < at .0 + bound
 
--- The row at a place has work left only less than `bound` ticks after its release: from then on its poll is over.
+-- The row at a place has work left only less than `bound` ticks after its release: then its poll is over.
 abbrev pub OverInTime : (place bound : ℕ) → Bench → Type 0
 OverInTime place bound b = 0 < work (stateAt b place) → LessAgo (b .now .0) bound (stateAt b place .last)
 
@@ -52,16 +52,16 @@ pub record Refuses (number place : ℕ) (step : Step) : Type 0 where
 abbrev pub NotUnfinished : (place : ℕ) → Step → Type 0
 NotUnfinished place step = Refuses 21 place step → ⊥
 
--- A bound holds for the row at a place in a history of calls from a bench: in the state after the history, in every
--- step of it, and for whatever release would come next.
+-- A bound holds for the row at a place in a history of calls from a bench: in the state after the history, in
+-- every step of it, and for any release that may come next.
 pub record Holds (start : Bench) (calls : List Call) (place bound : ℕ) : Type 0 where
   pub over-in-time : OverInTime place bound (after start calls)
   pub ends-in-time : Each (EndsInTime place bound) (steps start calls)
   pub not-unfinished : Each (NotUnfinished place) (steps start calls)
   pub can-be-released : (demand : ℕ) → NotUnfinished place (release (after start calls) place demand)
 
--- Demand 3. A bench is opened for a table, and any calls are made on it, refused ones among them. Then the bound of
--- every row that has one holds.
+-- Demand 3. A bench is opened for a table, and any calls are made on it, refused ones among them. Then the
+-- bound of every row that has one holds.
 abbrev pub BoundsHold : Type 0
 BoundsHold =
     (cores : ℕ) (table : Table) (start : Bench) → opened cores table ≡ some start → (calls : List Call)
