@@ -6,3 +6,11 @@ pub mod Permitted
 pub mod Ended
 pub mod Serving
 pub mod Turns
+pub mod Units
+pub mod Gaps
+pub mod Steps
+pub mod Kept
+pub mod Balance
+pub mod Prefix
+pub mod Below
+pub mod Responses

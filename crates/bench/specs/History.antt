@@ -2,7 +2,7 @@
 use Prim.Native.Nat.{ℕ, zero, suc, _+_, _-_}
 use mathlib.Core.Bool.{Bool, true, false, _&&_}
 use mathlib.Core.List.{List, [], _∷_}
-use lib.Dec.{eqb, leb}
+use lib.Dec.{eqb, leb, ltb}
 use lib.ListN.{getD}
 use Rattle.bench.specs.declared.Bench.{Bench}
 use Rattle.bench.specs.declared.Outcome.{Outcome}
@@ -54,3 +54,33 @@ accepted place b (call ∷ calls) = brought place b call + accepted place (doCal
 unfoldable pub servedIn : (place : ℕ) → Bench → List Call → ℕ
 servedIn place b [] = 0
 servedIn place b (call ∷ calls) = gave place b call + servedIn place (doCall b call .bench) calls
+
+-- Whether a call concerns the rows down to place k: a tick, or a release at one of their places.
+unfoldable pub concerns : (k : ℕ) → Call → Bool
+concerns k (releases place demand) = ltb 0 place && leb place k
+concerns k ticks = true
+
+-- the calls of a history that do
+unfoldable pub callsTo : (k : ℕ) → List Call → List Call
+callsTo k [] = []
+callsTo k (call ∷ calls) = elim (concerns k call) [ true ↦ call ∷ callsTo k calls | false ↦ callsTo k calls ]
+
+-- the ended polls of rows down to place k
+unfoldable pub finishesTo : (k : ℕ) → List Finish → List Finish
+finishesTo k [] = []
+finishesTo k (poll ∷ polls) = elim (leb (poll .place) k) [ true ↦ poll ∷ finishesTo k polls | false ↦ finishesTo k polls ]
+
+-- What the rows down to a place hear of a call: whether it was taken, and which of their polls ended.
+pub record Heard : Type 0 where
+  pub outcome : Outcome
+  pub finishes : List Finish
+
+abbrev pub heardOf : (k : ℕ) → Step → Heard
+heardOf k step = record { outcome = step .outcome; finishes = finishesTo k (step .finishes) }
+
+-- what they hear in the run of a history: of each call that concerns them
+unfoldable pub heard : (k : ℕ) → Bench → List Call → List Heard
+heard k b [] = []
+heard k b (call ∷ calls) =
+    let rest = heard k (doCall b call .bench) calls in
+    elim (concerns k call) [ true ↦ heardOf k (doCall b call) ∷ rest | false ↦ rest ]

@@ -19,6 +19,11 @@ unfoldable pub units : (free : ℕ) → List RowState → List ℕ
 units free [] = []
 units free (state ∷ states) = unit free (work state) ∷ units (free - unit free (work state)) states
 
+-- how many of the rows have work remaining: the count that document 01 calls "how many"
+unfoldable pub workers : List RowState → ℕ
+workers [] = 0
+workers (state ∷ states) = min 1 (work state) + workers states
+
 -- a row's state when it has got so many units
 unfoldable pub less : ℕ → RowState → RowState
 less u state = record { last = state .last; demand = state .demand; left = record { 0 = work state - u } }
