@@ -1,17 +1,16 @@
 -- The rows above a row through a tick: a full one, one with a core to spare, one after which a window begins.
-use Prim.Native.Nat.{ℕ, zero, suc, _+_, _-_, _*_, _≤_, _<_, min}
+use Prim.Native.Nat.{ℕ, zero, suc, _+_, _-_, _≤_, _<_}
 use mathlib.Core.Path.{_≡_, refl}
 use mathlib.Core.Bool.{Bool, true, false}
 use mathlib.Core.List.{List, [], _∷_}
 use native.Mathlib.Omega.{arith}
 use Rattle.laws.specs.Each.{Each}
 use lib.ListN.{length}
-use Rattle.quantities.specs.Row.{cost, gap}
 use Rattle.windows.specs.Choice.{Bounded, InRange, carriers}
 use Rattle.bench.specs.declared.RowState.{RowState}
 use Rattle.bench.specs.Record.{work}
 use Rattle.bench.specs.Serving.{unit, less}
-use Rattle.running.proofs.State.{ever, came, unit-facts, spare, servedUp}
+use Rattle.running.proofs.State.{came, unit-facts, spare, servedUp}
 use Rattle.running.proofs.Invariant.{Keeps, Phase, quiet, carried, Above, no-rows, more}
 use Rattle.running.proofs.Invariant.{Facts, no-facts, fact, sum}
 use Rattle.running.proofs.Phase.{phase-tick}

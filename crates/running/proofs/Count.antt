@@ -1,18 +1,18 @@
 -- The count: the rows above cannot fill a window as long as the bound, so no window gets that long.
-use Prim.Native.Nat.{ℕ, zero, suc, _+_, _-_, _*_, _≤_, _<_, min}
-use mathlib.Core.Path.{_≡_, refl, ap, sym}
+use Prim.Native.Nat.{ℕ, _+_, _*_, _≤_, _<_, min}
+use mathlib.Core.Path.{_≡_, ap}
 use mathlib.Core.Bool.{Bool, true, false}
 use mathlib.Core.List.{List, [], _∷_}
 use native.Mathlib.Omega.{arith}
 use native.Mathlib.Decide.{decLe}
 use native.Mathlib.Nat.{mul-le-mul-left, mul-le-mul-right, le-of-mul-le-mul-left}
 use Rattle.laws.specs.Each.{Each}
-use Rattle.quantities.specs.Row.{cost, gap}
+use Rattle.quantities.specs.Row.{cost}
 use Rattle.windows.specs.Window.{limit, interference}
-use Rattle.windows.specs.Choice.{Bounded, InRange, loads, carriers, total, Passes}
+use Rattle.windows.specs.Choice.{Bounded, InRange, loads, carriers, total}
 use Rattle.bench.specs.declared.RowState.{RowState}
 use Rattle.running.proofs.Invariant.{Above, no-rows, more, Shown, sum}
-use Rattle.running.proofs.Phase.{workload, work-le}
+use Rattle.running.proofs.Phase.{work-le}
 use Rattle.running.proofs.Above.{flags-each}
 
 -- what the rows above did in the full ticks, each cut off at the limit

@@ -10,4 +10,5 @@ pub mod Reading
 pub mod Start
 pub mod Tests
 pub mod Calls
+pub mod Below
 pub mod Running

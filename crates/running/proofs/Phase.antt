@@ -1,5 +1,5 @@
 -- One row above through a tick and through a release, and the most that it works in a window.
-use Prim.Native.Nat.{ℕ, zero, suc, _+_, _-_, _*_, _≤_, _<_, min}
+use Prim.Native.Nat.{ℕ, zero, suc, _+_, _-_, _≤_, _<_, min}
 use mathlib.Core.Path.{_≡_, refl}
 use mathlib.Core.Logic.{_⊎_, inl, inr, ⊎-elim}
 use mathlib.Core.Bool.{Bool, true, false}
@@ -13,7 +13,7 @@ use Rattle.bench.specs.Record.{work}
 use Rattle.bench.specs.Serving.{less}
 use Rattle.bench.specs.Step.{fresh}
 use Rattle.running.proofs.State.{ever, came}
-use Rattle.running.proofs.Invariant.{Keeps, Phase, quiet, ran, carried, carried-ran}
+use Rattle.running.proofs.Invariant.{Phase, quiet, ran, carried, carried-ran}
 
 -- a row that is served has work, so it is within its bound
 served-in-time : (u left now end : ℕ) → u ≤ left → (0 < left → now < end) → (u ≡ 0) ⊎ (now < end)

@@ -1,5 +1,5 @@
 -- What the invariant says of a row by its index, and of the polls that end in a tick.
-use Prim.Native.Nat.{ℕ, zero, suc, _+_, _-_, _≤_, _<_, min}
+use Prim.Native.Nat.{ℕ, zero, suc, _+_, _-_, _≤_, _<_}
 use mathlib.Core.Path.{_≡_, refl}
 use mathlib.Core.Bool.{Bool, true, false, _&&_}
 use mathlib.Core.List.{List, [], _∷_}
@@ -19,7 +19,7 @@ use Rattle.bench.specs.declared.Finish.{Finish}
 use Rattle.bench.specs.Record.{work, idle}
 use Rattle.bench.specs.Serving.{unit, units, ends, since, finishOf, finished}
 use Rattle.running.proofs.State.{instantOf, ever, came, unit-facts}
-use Rattle.running.proofs.Invariant.{Keeps, Window, Shown, Inv, done, next}
+use Rattle.running.proofs.Invariant.{Inv, done, next}
 use Rattle.running.proofs.Tick.{in-time}
 
 -- What is known of a row with a bound.

@@ -1,19 +1,19 @@
 -- A release keeps the invariant: for the row itself, and for each row below it.
-use Prim.Native.Nat.{ℕ, zero, suc, _+_, _-_, _*_, _≤_, _<_, min}
+use Prim.Native.Nat.{ℕ, zero, suc, _-_, _≤_, _<_}
 use mathlib.Core.Path.{_≡_, refl}
-use mathlib.Core.Bool.{Bool, true, false}
-use mathlib.Core.List.{List, [], _∷_}
+use mathlib.Core.Bool.{Bool, true}
+use mathlib.Core.List.{List, _∷_}
 use native.Mathlib.Omega.{arith}
-use lib.ListN.{length, getD, set}
+use lib.ListN.{getD, set}
 use Rattle.quantities.specs.declared.Row.{Row}
 use Rattle.quantities.specs.Row.{cost, gap, noRow}
-use Rattle.windows.specs.Choice.{Bounded, bounded, InRange, carriers}
+use Rattle.windows.specs.Choice.{Bounded, bounded}
 use Rattle.bench.specs.declared.RowState.{RowState}
 use Rattle.bench.specs.Record.{work, idle}
 use Rattle.bench.specs.Step.{fresh}
 use Rattle.running.proofs.State.{ever, came}
-use Rattle.running.proofs.Invariant.{Keeps, Above, no-rows, more, Mine, resting, working}
-use Rattle.running.proofs.Invariant.{Window, Shown, Inv, done, next}
+use Rattle.running.proofs.Invariant.{Keeps, Above, more, Mine, resting, working}
+use Rattle.running.proofs.Invariant.{Window, Inv, done, next}
 use Rattle.running.proofs.Phase.{phase-release}
 
 -- A release that the bench takes: 1 to C ticks, the gap is kept, and the last poll is over.

@@ -1,48 +1,36 @@
 -- Demand 3: what the invariant says of one bench and one call, and the theorem over every history.
 use Prim.Native.Nat.{ℕ, suc, _+_, _-_, _≤_, _<_}
 use mathlib.Core.Path.{_≡_, refl}
-use mathlib.Core.Bool.{true, false}
-use mathlib.Core.List.{List, [], _∷_}
+use mathlib.Core.Bool.{true}
+use mathlib.Core.List.{List, []}
 use mathlib.Core.Option.{Option, none, some}
 use native.Mathlib.Omega.{arith}
-use lib.ListN.{length, getD, take}
-use Rattle.laws.specs.Each.{Each}
+use lib.ListN.{length, take}
 use Rattle.laws.proofs.Lists.{each-map}
 use Rattle.quantities.specs.Limits.{rowCapacity}
 use Rattle.quantities.specs.declared.Row.{Row}
 use Rattle.quantities.specs.declared.Table.{Table}
-use Rattle.quantities.specs.Row.{gap, noRow}
 use Rattle.quantities.specs.Table.{rowsOf}
 use Rattle.quantities.specs.Checks.{SoundList}
-use Rattle.quantities.proofs.Sound.{sound-list-means}
 use Rattle.bench.specs.declared.Last.{Last}
 use Rattle.bench.specs.declared.Last.the-variants.{Never, At}
 use Rattle.bench.specs.declared.Bench.{Bench}
-use Rattle.bench.specs.declared.Finish.{Finish}
 use Rattle.bench.specs.declared.Refusal.{Refusal}
 use Rattle.bench.specs.declared.Refusal.the-variants.{Unfinished}
 use Rattle.bench.specs.declared.Outcome.the-variants.{Taken, Refused}
-use Rattle.bench.specs.Record.{rows, rowAt, stateAt, work}
-use Rattle.bench.specs.Refusal.{test, firstRefusal, tooSoon, releaseTests, tickTests, numberOf, placeOf}
+use Rattle.bench.specs.Record.{rows, rowAt, stateAt}
+use Rattle.bench.specs.Refusal.{firstRefusal, releaseTests, tickTests, placeOf}
 use Rattle.bench.specs.Serving.{units, finished}
-use Rattle.bench.specs.Step.{Step, unless, started, release, served, taken, tick, emptyBench}
-use Rattle.bench.specs.History.{Call, releases, ticks, doCall, after, steps}
-use Rattle.running.specs.Running.{
-  boundsOf,
-  boundAt,
-  LessAgo,
-  OverInTime,
-  EndsInTime,
-  Refuses,
-  NotUnfinished,
-  Holds,
-  BoundsHold,
-}
+use Rattle.bench.specs.Step.{unless, started, release, served, taken, tick, emptyBench}
+use Rattle.bench.specs.History.{Call, releases, ticks, doCall, after}
+use Rattle.bench.proofs.Kept.{opened-empty}
+use Rattle.running.specs.Running.{boundsOf, boundAt, LessAgo, OverInTime, EndsInTime, NotUnfinished, Holds, BoundsHold}
 use Rattle.running.proofs.State.{isAt, instantOf}
 use Rattle.running.proofs.Invariant.{no-rows}
-use Rattle.running.proofs.Reading.{RowFacts, Ended, inv-at, ended-in-time}
+use Rattle.running.proofs.Reading.{RowFacts, inv-at, ended-in-time}
 use Rattle.running.proofs.Tests.{UnfinishedAt, release-unfinished, tick-refusal}
-use Rattle.running.proofs.Start.{inv-start, judged-walk, opened-means}
+use Rattle.running.proofs.Start.{inv-start, judged-walk}
+use Rattle.running.proofs.Below.{opened-sound}
 use Rattle.running.proofs.Calls.{InRun, run-after, run-steps}
 
 -- a release that came less than the bound ago
@@ -171,7 +159,6 @@ run-start cores table sound =
 -- Demand 3: the bound of every row that has one holds on a running board.
 pub bounds-hold : BoundsHold
 bounds-hold cores table start is calls place first within =
-    let opened = opened-means cores table start is in
-    let sound = sound-list-means cores (rowsOf table) .0 (opened .sound) in
-    rw (opened .empty)
+    let sound = opened-sound cores table start is in
+    rw (opened-empty cores table start is .1)
     (run-holds place first within (emptyBench cores table) calls (run-start cores table sound))

@@ -1,26 +1,20 @@
--- The invariant of a bench that was just opened, and what an opening tells.
-use Prim.Native.Nat.{ℕ, zero, suc, _+_, _*_, _≤_, _<_}
-use mathlib.Core.Path.{_≡_, refl, sym, _∙_}
-use mathlib.Core.Bool.{Bool, true, false}
+-- The invariant of an empty bench, from the bounds of a sound list.
+use Prim.Native.Nat.{ℕ, zero, suc, _≤_, _<_}
+use mathlib.Core.Path.{_≡_, refl}
+use mathlib.Core.Bool.{Bool, false}
 use mathlib.Core.List.{List, [], _∷_}
-use mathlib.Core.Option.{Option, none, some}
 use native.Mathlib.Omega.{arith}
 use lib.ListN.{length, replicate}
 use Rattle.laws.specs.Each.{Each}
 use Rattle.quantities.specs.declared.Row.{Row}
-use Rattle.quantities.specs.declared.Table.{Table}
-use Rattle.quantities.specs.declared.Fault.{Fault}
-use Rattle.quantities.specs.Row.{cost, deadline, gap, SoundRow}
-use Rattle.quantities.specs.Table.{rowsOf}
-use Rattle.quantities.specs.Checks.{listFault, SoundList}
+use Rattle.quantities.specs.Row.{SoundRow}
+use Rattle.quantities.specs.Checks.{SoundList}
 use Rattle.windows.specs.Choice.{Bounded, bounded, InRange, carriers}
 use Rattle.windows.specs.Answer.{judged, verdict}
-use Rattle.windows.specs.Bound.{IsBound, boundsBelow}
+use Rattle.windows.specs.Bound.{IsBound}
 use Rattle.windows.proofs.Judgement.{Walk, over, stop, on, walk, judged-sound}
 use Rattle.bench.specs.declared.RowState.{RowState}
-use Rattle.bench.specs.declared.Bench.{Bench}
 use Rattle.bench.specs.Record.{idle}
-use Rattle.bench.specs.Step.{emptyBench, openedAfter, opened}
 use Rattle.running.proofs.Invariant.{Keeps, quiet, Above, more, resting, sum}
 use Rattle.running.proofs.Invariant.{Window, Shown, Inv, done, next}
 
@@ -89,21 +83,3 @@ inv-start cores still sound (on {row} {b = r} least below) (suc n) fits =
 pub judged-walk : (M : ℕ) (rows : List Row) → SoundList M rows → Walk M [] rows (judged M rows .bounds)
 unfolding verdict
 judged-walk M rows sound = rw (judged-sound M rows sound) (walk M [] rows)
-
--- A bench that was opened: its table passed checks 1 to 6, and it is empty.
-pub record Opened (cores : ℕ) (table : Table) (start : Bench) : Type 0 where
-  pub sound : listFault cores (rowsOf table) ≡ none
-  pub empty : start ≡ emptyBench cores table
-
-pub opened-means : (cores : ℕ) (table : Table) (start : Bench) → opened cores table ≡ some start
-    → Opened cores table start
-unfolding opened openedAfter
-opened-means cores table start is = go (listFault cores (rowsOf table)) refl
-  where
-    go : (found : Option Fault) → listFault cores (rowsOf table) ≡ found → Opened cores table start
-    go none q =
-        let same : some (emptyBench cores table) ≡ some start = rw (q, openedAfter) at is in
-        record { sound = q; empty = cc }
-    go (some fault) q =
-        let same : none ≡ some start = rw (q, openedAfter) at is in
-        let z : _≡_ {A = ℕ} 0 1 = cc in absurd (omega arith)

@@ -2,8 +2,8 @@
 use Prim.Native.Nat.{ℕ, _-_, _≤_, _<_}
 use mathlib.Core.Path.{_≡_, refl}
 use mathlib.Core.Bool.{Bool, true, false, _||_}
-use mathlib.Core.List.{List, [], _∷_}
-use mathlib.Core.Option.{Option, none, some}
+use mathlib.Core.List.{[], _∷_}
+use mathlib.Core.Option.{none, some}
 use native.Mathlib.Omega.{arith}
 use lib.Dec.{eqb, ltb}
 use lib.ListN.{length}
@@ -45,11 +45,11 @@ last-failed p false true t23 t22 t21 why e n = absurd (omega (arith, same-number
 last-failed p true t20 t23 t22 t21 why e n = absurd (omega (arith, same-number why BrokenRecord e n))
 
 -- a release that is not too soon keeps the gap
-pub gap-kept : (now gap : ℕ) (last : Last) → tooSoon now gap last ≡ false → isAt last ≡ true
+pub gap-since : (now gap : ℕ) (last : Last) → tooSoon now gap last ≡ false → isAt last ≡ true
     → gap ≤ now - instantOf last
 unfolding tooSoon
-gap-kept now gap Never e at = let z : _≡_ {A = ℕ} 0 1 = cc in absurd (omega arith)
-gap-kept now gap (At at) e _ = ltb-false (now - at .0) gap e
+gap-since now gap Never e at = let z : _≡_ {A = ℕ} 0 1 = cc in absurd (omega arith)
+gap-since now gap (At at) e _ = ltb-false (now - at .0) gap e
 
 -- What 21 means for the row at a place: it is the row named, the gap is kept, and there is work left.
 pub record UnfinishedAt (b : Bench) (place : ℕ) (why : Refusal) : Type 0 where
@@ -65,7 +65,7 @@ module _ (b : Bench) (place demand : ℕ) where
       record {
         some = may .some-demand;
         fits = may .fits;
-        kept = gap-kept (b .now .0) (gap (rowAt b place)) (stateAt b place .last) (may .late);
+        kept = gap-since (b .now .0) (gap (rowAt b place)) (stateAt b place .last) (may .late);
         over = may .done;
       }
 
@@ -81,7 +81,7 @@ module _ (b : Bench) (place demand : ℕ) where
       (ltb 0 (work (stateAt b place))) why e n in
       record {
         why-is = failed .0;
-        kept = gap-kept (b .now .0) (gap (rowAt b place)) (stateAt b place .last) (failed .1 .0);
+        kept = gap-since (b .now .0) (gap (rowAt b place)) (stateAt b place .last) (failed .1 .0);
         left = ltb-true 0 (work (stateAt b place)) (failed .1 .1);
       }
 

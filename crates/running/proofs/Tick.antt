@@ -1,32 +1,17 @@
 -- A tick keeps the invariant: a full one, or one that serves the row, lengthens its window; others begin it anew.
-use Prim.Native.Nat.{ℕ, zero, suc, _+_, _-_, _*_, _≤_, _<_, min}
+use Prim.Native.Nat.{ℕ, zero, suc, _+_, _-_, _*_, _<_}
 use mathlib.Core.Path.{_≡_, refl}
-use mathlib.Core.Bool.{Bool, true, false}
-use mathlib.Core.List.{List, [], _∷_}
+use mathlib.Core.List.{List}
 use native.Mathlib.Omega.{arith}
 use lib.ListN.{length, take}
 use Rattle.quantities.specs.declared.Row.{Row}
-use Rattle.quantities.specs.Row.{cost, gap}
-use Rattle.windows.specs.Choice.{Bounded, bounded, InRange, carriers}
+use Rattle.quantities.specs.Row.{cost}
+use Rattle.windows.specs.Choice.{Bounded, InRange}
 use Rattle.bench.specs.declared.RowState.{RowState}
 use Rattle.bench.specs.Record.{work}
 use Rattle.bench.specs.Serving.{unit, units, less, worked}
-use Rattle.running.proofs.State.{ever, came, unit-facts, spare, servedBelow, servedUp}
-use Rattle.running.proofs.Invariant.{
-  Keeps,
-  Above,
-  Facts,
-  fact,
-  Mine,
-  resting,
-  working,
-  Window,
-  Shown,
-  Inv,
-  done,
-  next,
-  sum,
-}
+use Rattle.running.proofs.State.{came, unit-facts, spare, servedBelow, servedUp}
+use Rattle.running.proofs.Invariant.{Keeps, Facts, fact, Mine, resting, working, Window, Shown, Inv, done, next, sum}
 use Rattle.running.proofs.Above.{above-full, above-slack, anew, ranges}
 use Rattle.running.proofs.Count.{short}
 

@@ -1,5 +1,5 @@
 -- A bound that is met exactly: document 01's bench case, in which the third row takes all of its 12 ticks.
-use Prim.Native.Nat.{ℕ, _<_}
+use Prim.Native.Nat.{_<_}
 use mathlib.Core.Path.{_≡_, refl}
 use mathlib.Core.List.{List, [], _∷_}
 use mathlib.Core.Option.{some}
@@ -16,7 +16,7 @@ use Rattle.windows.specs.Bound.{window, boundsBelow}
 use Rattle.windows.specs.Answer.{verdict, judgedAfter, judged}
 use Rattle.bench.specs.declared.Bench.{Bench}
 use Rattle.bench.specs.declared.Finish.{Finish}
-use Rattle.bench.specs.Record.{stateAt, work, lastBroken, rowBroken, rowsBroken, isFault, broken}
+use Rattle.bench.specs.Record.{lastBroken, rowBroken, rowsBroken, isFault, broken}
 use Rattle.bench.specs.Refusal.{firstRefusal, tooSoon, releaseTests, tickTests}
 use Rattle.bench.specs.Serving.{unit, units, less, worked, ends, since, finishOf, finished}
 use Rattle.bench.specs.Step.{
