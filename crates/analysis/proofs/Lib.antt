@@ -1,2 +1,3 @@
 -- Laws of the engine's words.
 pub mod Above
+pub mod Tally

@@ -1,11 +1,12 @@
 -- What the engine's inner functions ask for and leave. No promise is made in these words.
-use Prim.Native.Nat.{ℕ, zero, suc, _+_, _*_, _≤_, _<_, max}
+use Prim.Native.Nat.{ℕ, zero, suc, _+_, _*_, _≤_, _<_, min, max}
 use mathlib.Core.Path.{_≡_}
 use mathlib.Core.Option.{Option, none, some}
 use mathlib.Core.List.{List}
 use lib.ListN.{getD}
 use Rattle.laws.specs.Each.{Each}
 use Rattle.quantities.specs.Limits.{rowCapacity, coreLimit, largestGap}
+use Rattle.quantities.specs.Row.{SoundRow}
 use Rattle.quantities.specs.Table.{rowsOf}
 use Rattle.quantities.specs.declared.Table.{Table}
 use Rattle.quantities.specs.declared.Ticks.{Ticks}
@@ -24,6 +25,7 @@ pub record Ready (cores : ℕ) (table : Table) (bounds : List Ticks) (k : ℕ) :
   pub some-cores : 0 < cores
   pub few-cores : cores ≤ coreLimit
   pub few-rows : table .count ≤ rowCapacity
+  pub sound : Each SoundRow (rowsOf table)
   pub within : k ≤ table .count
   pub range : Each InRange (above table bounds k)
 
@@ -38,6 +40,15 @@ pub record CanRaise (mosts : List ℕ) (carriers without carrying : ℕ) : Type 
   pub small-without : without ≤ suc largestGap
   pub small-carrying : carrying ≤ suc largestGap
   pub small : (m : ℕ) → m ≤ carriers → getD mosts m 0 ≤ rowCapacity * suc largestGap
+
+-- How many rows have room, and the least room of these, when one row more comes with this room.
+unfoldable pub countWith : (room count : ℕ) → ℕ
+countWith zero count = count
+countWith (suc room) count = suc count
+
+unfoldable pub leastWith : (room least : ℕ) → ℕ
+leastWith zero least = least
+leastWith (suc room) least = min (suc room) least
 
 -- a window, or none, as the code answers it
 unfoldable pub foundOf : Option ℕ → Found

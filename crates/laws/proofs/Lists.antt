@@ -1,8 +1,10 @@
 -- Laws of lists that the kit's library does not have.
-use Prim.Native.Nat.{ℕ, zero, suc}
+use Prim.Native.Nat.{ℕ, zero, suc, _<_}
 use mathlib.Core.Path.{_≡_, refl}
 use mathlib.Core.List.{List, [], _∷_, _++_}
-use lib.ListN.{getD, replicate}
+use native.Mathlib.Omega.{arith}
+use lib.ListN.{length, getD, replicate}
+use Rattle.laws.specs.Each.{Each}
 
 module _ {A : Type 0} where
   -- where the default is repeated, the default is read at each index
@@ -16,3 +18,9 @@ module _ {A : Type 0} where
   getD-padded [] n i d = getD-repeated n i d
   getD-padded (x ∷ xs) n zero d = refl
   getD-padded (x ∷ xs) n (suc i) d = getD-padded xs n i d
+
+  -- what holds of each element holds of the one at an index
+  pub each-at : (P : A → Type 0) (xs : List A) (i : ℕ) (d : A) → i < length xs → Each P xs → P (getD xs i d)
+  each-at P [] i d h each = absurd (omega arith)
+  each-at P (x ∷ xs) zero d h each = each .0
+  each-at P (x ∷ xs) (suc i) d h each = each-at P xs i d (omega arith) (each .1)

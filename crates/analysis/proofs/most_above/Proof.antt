@@ -20,7 +20,7 @@ use Rattle.windows.proofs.Window.{interference-le-limit}
 use Rattle.windows.proofs.Choice.{most-le-limit}
 use Rattle.analysis.specs.Analysis.{ticks, numbers}
 use Rattle.analysis.specs.Engine.{above, raisedAt}
-use Rattle.analysis.proofs.Above.{length-above, each-above, entry-above}
+use Rattle.analysis.proofs.Above.{length-above, entry, entry-above, each-entry}
 use Rattle.analysis.proofs.most_above.Statement.{statement}
 use Rattle.analysis.proofs.most_above.Tie as tie
 use Rattle.analysis.proofs.most_above.Reads as reads
@@ -53,10 +53,6 @@ most-small table bounds i own x m h k =
     let few : length (above table bounds i) ≤ rowCapacity =
     omega (arith, length-above (rowsOf table) (numbers bounds) i) in
     le-trans (most-le-limit own x m (above table bounds i)) (mul-le-mul few (limit-small own x k))
-
--- the row with index i and its bound, as the engine reads them
-abbrev entry : Table → List Ticks → ℕ → Bounded
-entry table bounds i = bounded (getD (table .rows) i noRow) (getD bounds i (ticks 0) .0)
 
 -- what it takes stays small too
 load-small : (own x : ℕ) (b : Bounded) → x ≤ largestGap
@@ -113,9 +109,8 @@ array-copy-out-bound c = search needs
 load-of-requires : tie.Need-load-of-requires Inv-loop μ-loop
 load-of-requires c κs =
     let s = c .before .before .before .before in
-    let i = c .before .before .before .loop .i in
-    rw (entry-above (s .args .t2) (s .args .t3) i (omega arith))
-    (each-above InRange (rowsOf (s .args .t2)) (numbers (s .args .t3)) (s .args .k) i (omega arith) (s .pre .0 .range))
+    each-entry InRange (s .args .t2) (s .args .t3) (s .args .k) (c .before .before .before .loop .i)
+    (s .pre .0 .within) (omega arith) (s .pre .0 .range)
 
 raised-requires : tie.Need-raised-requires Inv-loop μ-loop
 raised-requires c κs =

@@ -1,0 +1,76 @@
+-- room_of answers how far the window can grow with this row taking every tick of it.
+use Prim.Native.Nat.{ℕ, _+_, _*_, _/_, _≤_}
+use native.Mathlib.Omega.{arith}
+use native.Mathlib.Nat.{le-trans}
+use mathlib.Core.Path.{_≡_}
+use Rattle.quantities.specs.Row.{cost, gap}
+use Rattle.windows.specs.Window.{plain, carry}
+use Rattle.windows.specs.Choice.{Bounded, bounded, load}
+use Rattle.windows.specs.Jump.{room}
+use Rattle.windows.proofs.Window.{interference-le-work}
+use Rattle.windows.proofs.Far.{plain-le-polls}
+use borrow.Author.Needs.{needs}
+use Rattle.analysis.proofs.room_of.Statement.{statement}
+use Rattle.analysis.proofs.room_of.Tie as tie
+use Rattle.analysis.proofs.room_of.Reads as reads
+use Rattle.analysis.proofs.room_of.Lts as lts
+use Rattle.analysis.proofs.load_of.Reads as load-of-reads
+use Rattle.analysis.proofs.polls_in.Reads as polls-in-reads
+use Rattle.analysis.proofs.smaller.Reads as smaller-reads
+use Rattle.windows.proofs.carry_work.Reads as carry-work-reads
+
+polls-in-requires : tie.Need-polls-in-requires
+polls-in-requires c κs = search needs
+
+load-of-requires : tie.Need-load-of-requires
+load-of-requires c κs = search needs
+
+carry-work-requires : tie.Need-carry-work-requires
+carry-work-requires c κs = search needs
+
+-- what a row takes is at most its work, and without carry-in at most its polls
+without-le-polls : (own x : ℕ) (b : Bounded) → load own x b .without ≤ x / gap (b .row) * cost (b .row) + cost (b .row)
+without-le-polls own x b =
+    le-trans (interference-le-work own x (plain (cost (b .row)) (gap (b .row)) x))
+    (plain-le-polls (cost (b .row)) (gap (b .row)) x)
+
+carrying-le-carry : (own x : ℕ) (b : Bounded) → load own x b .carrying ≤ carry (cost (b .row)) (gap (b .row)) (b .bound) x
+carrying-le-carry own x b = interference-le-work own x (carry (cost (b .row)) (gap (b .row)) (b .bound) x)
+
+sub-unfinished : tie.Need-sub-unfinished
+sub-unfinished c =
+    let a = c .before .before .before .before .args in
+    rw (c .before .before .load-of .ensures .0, c .before .before .before .polls-in .ensures)
+    (without-le-polls (a .own .0) (a .window .0) (bounded (a .row) (a .bound .0)))
+
+sub-cut : tie.Need-sub-cut
+sub-cut c =
+    let a = c .before .before .before .before .before .before .args in
+    rw (c .before .before .before .before .load-of .ensures .1, c .before .before .before .carry-work .ensures)
+    (carrying-le-carry (a .own .0) (a .window .0) (bounded (a .row) (a .bound .0)))
+
+smaller-requires : tie.Need-smaller-requires
+smaller-requires c κs = search needs
+
+returns : tie.Need-returns
+unfolding room
+returns c =
+    simp (
+      c .smaller .ensures,
+      c .before .before .before .before .before .load-of .ensures .0,
+      c .before .before .before .before .before .load-of .ensures .1,
+      c .before .before .before .before .before .before .polls-in .ensures,
+      c .before .before .before .before .carry-work .ensures,
+    )
+
+pub room-of-spec : {M : Type 1} → statement M
+room-of-spec =
+    tie.close
+    (tie.spec
+    polls-in-requires
+    load-of-requires
+    carry-work-requires
+    sub-unfinished
+    sub-cut
+    smaller-requires
+    returns)
