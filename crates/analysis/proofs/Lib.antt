@@ -1,3 +1,4 @@
 -- Laws of the engine's words.
 pub mod Above
+pub mod Small
 pub mod Tally

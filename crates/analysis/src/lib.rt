@@ -1,6 +1,6 @@
 //! The engine: the bounds of a table's rows from the top, and the answer.
 ghost use mathlib.Core.Path.{_≡_};
-ghost use Prim.Native.Nat.{ℕ, suc, _+_, _-_, _*_, _/_, _≤_, _<_, min, max};
+ghost use Prim.Native.Nat.{ℕ, _+_, _-_, _*_, _/_, _≤_, _<_, min, max};
 ghost use lib.ListN.{getD};
 ghost use Rattle.quantities.specs.Row.{cost, deadline, gap};
 ghost use Rattle.quantities.specs.Limits.{rowCapacity, coreLimit, largestGap};
@@ -11,7 +11,7 @@ ghost use Rattle.windows.specs.Bound.{boundOf};
 ghost use Rattle.windows.specs.Answer.{judged, verdict};
 ghost use Rattle.windows.specs.Judgement.{rowAt};
 ghost use Rattle.analysis.specs.Analysis.{ticks, numbers, analysisOf};
-ghost use Rattle.analysis.specs.Engine.{Ready, CanRaise, above, raisedAt, countWith, leastWith, foundOf};
+ghost use Rattle.analysis.specs.Engine.{Ready, CanRaise, CanLoad, LoadIs, TakenIs, above, raisedAt, countWith, leastWith, foundOf};
 use quantities::Checked;
 use quantities::Row;
 use quantities::Table;
@@ -24,10 +24,18 @@ pub struct Analysis {
     pub bounds: [Ticks; Table::ROW_CAPACITY],
 }
 
-// What one row above takes from the row judged, without and with carry-in.
+// What one row above takes from the row judged, without and with carry-in, and how far the window can grow with the
+// row taking every tick of it.
 struct Load {
     without: u64,
     carrying: u64,
+    room: u64,
+}
+
+// What the rows above take from the row judged, and the ticks that they have room for on every core.
+struct Taken {
+    most: u64,
+    stride: u64,
 }
 
 // How many of the rows above have room, and the least room of these.
@@ -40,21 +48,6 @@ struct Rooms {
 enum Found {
     At(Ticks),
     Nothing,
-}
-
-// What a row above with this bound takes from a row with this own cost, in a window.
-fn load_of(own: Ticks, window: Ticks, row: Row, bound: Ticks) -> Load
-    requires { ⌜ InRange (bounded row (bound .0)) ⌝ }
-    ensures { λ r. ⌜ (r .without ≡ load (own .0) (window .0) (bounded row (bound .0)) .without) × (r .carrying ≡ load (own .0) (window .0) (bounded row (bound .0)) .carrying) ⌝ }
-{
-    let plain = windows::plain_work(row, window);
-    let carry = windows::carry_work(row, bound, window);
-    let without = windows::interference(own, window, plain);
-    let carrying = windows::interference(own, window, carry);
-    Load {
-        without: without.0,
-        carrying: carrying.0,
-    }
 }
 
 // The larger of two numbers.
@@ -99,32 +92,6 @@ fn raised(
     mosts
 }
 
-// The most that the rows above index k take from a row with this own cost, in a window.
-fn most_above(
-    cores: u32,
-    table: Table,
-    bounds: [Ticks; Table::ROW_CAPACITY],
-    k: usize,
-    own: Ticks,
-    window: Ticks,
-) -> u64
-    requires { ⌜ Ready cores table bounds k × (window .0 ≤ largestGap) ⌝ }
-    ensures { λ r. ⌜ r ≡ most (loads (own .0) (window .0) (above table bounds k)) (cores - 1) ⌝ }
-{
-    let carriers = (cores - 1) as usize;
-    let mut mosts = [0u64; Table::CORE_LIMIT as usize];
-    let mut i: usize = 0;
-    while i < k {
-        let row = table.rows[i];
-        let bound = bounds[i];
-        let load = load_of(own, window, row, bound);
-        let next = raised(mosts, carriers, load.without, load.carrying);
-        mosts = next;
-        i += 1;
-    }
-    mosts[carriers]
-}
-
 // The work of the polls of a row that came in a window, the present one whole.
 fn polls_in(window: u64, gap: u64, cost: u64) -> u64
     requires { ⌜ (0 < gap) × (cost ≤ gap) × (gap ≤ largestGap) × (window ≤ largestGap) ⌝ }
@@ -133,19 +100,6 @@ fn polls_in(window: u64, gap: u64, cost: u64) -> u64
     let gaps = window / gap;
     let whole = gaps * cost;
     whole + cost
-}
-
-// How far a window can grow with a row above taking every tick of it.
-fn room_of(own: Ticks, window: Ticks, row: Row, bound: Ticks) -> u64
-    requires { ⌜ InRange (bounded row (bound .0)) × (gap row ≤ largestGap) × (window .0 ≤ largestGap) ⌝ }
-    ensures { λ r. ⌜ r ≡ room (own .0) (window .0) (bounded row (bound .0)) ⌝ }
-{
-    let polls = polls_in(window.0, row.t.0, row.c.0);
-    let load = load_of(own, window, row, bound);
-    let carry = windows::carry_work(row, bound, window);
-    let unfinished = polls - load.without;
-    let cut = carry.0 - load.carrying;
-    smaller(unfinished, cut)
 }
 
 // The count and the least with one room more.
@@ -163,18 +117,40 @@ fn with_room(rooms: Rooms, room: u64) -> Rooms
     }
 }
 
-// The ticks that the rows above index k have room for on every core.
-fn stride_above(
+// The load of a row above with this bound on a row with this own cost, in a window.
+fn load_of(own: Ticks, window: Ticks, row: Row, bound: Ticks) -> Load
+    requires { ⌜ CanLoad (bounded row (bound .0)) (window .0) ⌝ }
+    ensures { λ r. ⌜ LoadIs (own .0) (window .0) (bounded row (bound .0)) (r .without) (r .carrying) (r .room) ⌝ }
+{
+    let polls = polls_in(window.0, row.t.0, row.c.0);
+    let plain = windows::plain_work(row, window);
+    let carry = windows::carry_work(row, bound, window);
+    let without = windows::interference(own, window, plain);
+    let carrying = windows::interference(own, window, carry);
+    let unfinished = polls - without.0;
+    let cut = carry.0 - carrying.0;
+    let room = smaller(unfinished, cut);
+    Load {
+        without: without.0,
+        carrying: carrying.0,
+        room: room,
+    }
+}
+
+// What the rows above index k take from a row with this own cost, in a window: one pass, the row next to it last.
+fn taken_above(
     cores: u32,
     table: Table,
     bounds: [Ticks; Table::ROW_CAPACITY],
     k: usize,
     own: Ticks,
     window: Ticks,
-) -> u64
+) -> Taken
     requires { ⌜ Ready cores table bounds k × (window .0 ≤ largestGap) ⌝ }
-    ensures { λ r. ⌜ r ≡ stride cores largestGap (rooms (own .0) (window .0) (above table bounds k)) ⌝ }
+    ensures { λ r. ⌜ TakenIs cores (own .0) (window .0) (above table bounds k) (r .most) (r .stride) ⌝ }
 {
+    let carriers = (cores - 1) as usize;
+    let mut mosts = [0u64; Table::CORE_LIMIT as usize];
     let mut rooms = Rooms {
         count: 0,
         least: Table::LARGEST_GAP,
@@ -183,35 +159,23 @@ fn stride_above(
     while i < k {
         let row = table.rows[i];
         let bound = bounds[i];
-        let room = room_of(own, window, row, bound);
-        rooms = with_room(rooms, room);
+        let load = load_of(own, window, row, bound);
+        let next = raised(mosts, carriers, load.without, load.carrying);
+        mosts = next;
+        rooms = with_room(rooms, load.room);
         i += 1;
     }
-    if rooms.count < cores as usize {
-        return 0;
+    let most = mosts[carriers];
+    if rooms.count <= carriers {
+        return Taken {
+            most: most,
+            stride: 0,
+        };
     }
-    rooms.least
-}
-
-// The window to try after one that did not pass, when a core's share of what the rows above take makes `next`.
-fn reach_after(
-    cores: u32,
-    table: Table,
-    bounds: [Ticks; Table::ROW_CAPACITY],
-    k: usize,
-    own: Ticks,
-    window: Ticks,
-    next: u64,
-) -> u64
-    requires { ⌜ Ready cores table bounds k × (window .0 ≤ largestGap) ⌝ }
-    ensures { λ r. ⌜ (next ≤ r) × ((suc (window .0) < next → r ≡ next) × (next ≤ suc (window .0) → r ≡ suc (window .0 + stride cores largestGap (rooms (own .0) (window .0) (above table bounds k))))) ⌝ }
-{
-    let step = window.0 + 1;
-    if step < next {
-        return next;
+    Taken {
+        most: most,
+        stride: rooms.least,
     }
-    let stride = stride_above(cores, table, bounds, k, own, window);
-    step + stride
 }
 
 // The bound of the row with index k, when the rows above it have theirs: the least window from C to D that passes.
@@ -225,12 +189,13 @@ fn bound_of(cores: u32, table: Table, bounds: [Ticks; Table::ROW_CAPACITY], k: u
     let mut x = own.0;
     while x <= top {
         let window = Ticks(x);
-        let taken = most_above(cores, table, bounds, k, own, window);
-        let next = own.0 + taken / (cores as u64);
+        let taken = taken_above(cores, table, bounds, k, own, window);
+        let next = own.0 + taken.most / (cores as u64);
         if next <= x {
             return Found::At(window);
         }
-        x = reach_after(cores, table, bounds, k, own, window, next);
+        let far = x + taken.stride + 1;
+        x = larger(next, far);
     }
     Found::Nothing
 }
