@@ -2,3 +2,4 @@
 pub mod Above
 pub mod Small
 pub mod Tally
+pub mod SoFar

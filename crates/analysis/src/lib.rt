@@ -7,7 +7,9 @@ ghost use Rattle.quantities.specs.Limits.{rowCapacity, coreLimit, largestGap};
 ghost use Rattle.quantities.specs.Table.{rowsOf};
 ghost use Rattle.windows.specs.Choice.{InRange, bounded, load, loads, most};
 ghost use Rattle.windows.specs.Jump.{room, rooms, stride};
-ghost use Rattle.windows.specs.Bound.{boundOf};
+ghost use mathlib.Core.List.{[]};
+ghost use Rattle.quantities.specs.Checks.{SoundList};
+ghost use Rattle.windows.specs.Bound.{boundOf, boundsBelow};
 ghost use Rattle.windows.specs.Answer.{judged, verdict};
 ghost use Rattle.windows.specs.Judgement.{rowAt};
 ghost use Rattle.analysis.specs.Analysis.{ticks, numbers, analysisOf};
@@ -198,4 +200,51 @@ fn bound_of(cores: u32, table: Table, bounds: [Ticks; Table::ROW_CAPACITY], k: u
         x = larger(next, far);
     }
     Found::Nothing
+}
+
+// The bounds of a sound table's rows from the top, up to the first row that has none, which is then named.
+fn bounds_of(cores: u32, table: Table) -> Analysis
+    requires { ⌜ SoundList cores (rowsOf table) ⌝ }
+    ensures { λ r. ⌜ r ≡ analysisOf (verdict (table .count) (boundsBelow cores [] (rowsOf table))) ⌝ }
+{
+    let none = Ticks(0);
+    let mut bounds = [none; Table::ROW_CAPACITY];
+    let mut i: usize = 0;
+    while i < table.count {
+        let found = bound_of(cores, table, bounds, i);
+        match found {
+            Found::At(x) => {
+                bounds[i] = x;
+            }
+            Found::Nothing => {
+                return Analysis {
+                    answer: Answer::NotShown(i + 1),
+                    bounds: bounds,
+                };
+            }
+        }
+        i += 1;
+    }
+    Analysis {
+        answer: Answer::Shown,
+        bounds: bounds,
+    }
+}
+
+// The answer to a table's rows on a board with this many cores: its fault, or its bounds from the top.
+pub fn analyse(cores: u32, table: Table) -> Analysis
+    ensures { λ r. ⌜ r ≡ analysisOf (judged cores (rowsOf table)) ⌝ }
+{
+    let found = table.check(cores);
+    match found {
+        Checked::Faulty(fault) => {
+            let none = Ticks(0);
+            let bounds = [none; Table::ROW_CAPACITY];
+            Analysis {
+                answer: Answer::Refused(fault),
+                bounds: bounds,
+            }
+        }
+        Checked::Sound => bounds_of(cores, table),
+    }
 }

@@ -27,10 +27,6 @@ use Rattle.analysis.specs.Engine.{above, foundOf, Ready, TakenIs}
 use Rattle.analysis.proofs.Small.{most-small}
 use Rattle.analysis.proofs.bound_of.Statement.{statement}
 use Rattle.analysis.proofs.bound_of.Tie as tie
-use Rattle.analysis.proofs.bound_of.Reads as reads
-use Rattle.analysis.proofs.bound_of.Lts as lts
-use Rattle.analysis.proofs.larger.Reads as larger-reads
-use Rattle.analysis.proofs.taken_above.Reads as taken-above-reads
 
 record In (cores : ℕ) (table : Table) (bounds : List Ticks) (k own x : ℕ) : Type 0 where
   low : own ≤ x

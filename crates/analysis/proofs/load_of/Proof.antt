@@ -10,13 +10,6 @@ use Rattle.windows.proofs.Far.{plain-le-polls}
 use borrow.Author.Needs.{needs}
 use Rattle.analysis.proofs.load_of.Statement.{statement}
 use Rattle.analysis.proofs.load_of.Tie as tie
-use Rattle.analysis.proofs.load_of.Reads as reads
-use Rattle.analysis.proofs.load_of.Lts as lts
-use Rattle.analysis.proofs.polls_in.Reads as polls-in-reads
-use Rattle.analysis.proofs.smaller.Reads as smaller-reads
-use Rattle.windows.proofs.carry_work.Reads as carry-work-reads
-use Rattle.windows.proofs.interference.Reads as interference-reads
-use Rattle.windows.proofs.plain_work.Reads as plain-work-reads
 
 polls-in-requires : tie.Need-polls-in-requires
 polls-in-requires c κs = search needs

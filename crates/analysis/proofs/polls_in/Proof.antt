@@ -5,8 +5,6 @@ use native.Mathlib.Nat.{mul-le-mul-left, div-mul-le-self}
 use borrow.Author.Needs.{needs}
 use Rattle.analysis.proofs.polls_in.Statement.{statement}
 use Rattle.analysis.proofs.polls_in.Tie as tie
-use Rattle.analysis.proofs.polls_in.Reads as reads
-use Rattle.analysis.proofs.polls_in.Lts as lts
 
 div-gaps : tie.Need-div-gaps
 div-gaps c = search needs

@@ -29,11 +29,6 @@ use Rattle.analysis.proofs.Small.{most-small, load-small}
 use Rattle.analysis.proofs.Tally.{count-le, count-row, least-row}
 use Rattle.analysis.proofs.taken_above.Statement.{statement}
 use Rattle.analysis.proofs.taken_above.Tie as tie
-use Rattle.analysis.proofs.taken_above.Reads as reads
-use Rattle.analysis.proofs.taken_above.Lts as lts
-use Rattle.analysis.proofs.load_of.Reads as load-of-reads
-use Rattle.analysis.proofs.raised.Reads as raised-reads
-use Rattle.analysis.proofs.with_room.Reads as with-room-reads
 
 -- one row more: raising the mosts of the rows passed gives the mosts with that row
 raised-is-most : (ls : List Load) (l : Load) (mosts : List ℕ) (carriers : ℕ)

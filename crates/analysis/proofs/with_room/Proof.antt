@@ -4,9 +4,6 @@ use mathlib.Core.Path.{sym, _∙_}
 use borrow.Author.Needs.{needs}
 use Rattle.analysis.proofs.with_room.Statement.{statement}
 use Rattle.analysis.proofs.with_room.Tie as tie
-use Rattle.analysis.proofs.with_room.Reads as reads
-use Rattle.analysis.proofs.with_room.Lts as lts
-use Rattle.analysis.proofs.smaller.Reads as smaller-reads
 
 returns : tie.Need-returns
 returns c = (sym (count-none _ _ (c .if1 .taken)), sym (least-none _ _ (c .if1 .taken)))
