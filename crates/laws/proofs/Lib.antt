@@ -1,3 +1,4 @@
--- The laws that belong to no one crate: of numbers, of lists.
+-- The laws that belong to no one crate: of numbers, of lists, of tests.
 pub mod Numbers
 pub mod Lists
+pub mod Tests

@@ -1,0 +1,133 @@
+-- The books of a row balance: what it had and what a history brings it is what the history serves it and what remains.
+use Prim.Native.Nat.{ℕ, zero, suc, _+_, _-_, _≤_, _<_}
+use native.Mathlib.Nat.{zero-add, add-zero}
+use native.Mathlib.Omega.{arith}
+use mathlib.Core.Path.{_≡_, refl, sym, ap, _∙_}
+use mathlib.Core.Bool.{Bool, true, false, _&&_}
+use mathlib.Core.List.{List, [], _∷_}
+use mathlib.Core.Option.{Option, none, some}
+use lib.Dec.{eqb}
+use lib.ListN.{length, getD, take, set, replicate}
+use lib.Seq.{getD-set-same, getD-set-other, getD-take}
+use borrow.Author.Tests.{eqb-true, eqb-false, eq-eqb, ne-eqb}
+use Rattle.laws.proofs.Lists.{getD-repeated}
+use Rattle.quantities.specs.Limits.{rowCapacity}
+use Rattle.quantities.specs.Table.{rowsOf}
+use Rattle.quantities.specs.declared.Table.{Table}
+use Rattle.quantities.proofs.Rows.{length-rows}
+use Rattle.bench.specs.declared.Bench.{Bench}
+use Rattle.bench.specs.declared.Refusal.{Refusal}
+use Rattle.bench.specs.declared.Outcome.the-variants.{Taken, Refused}
+use Rattle.bench.specs.Record.{idle, work, rows, stateAt}
+use Rattle.bench.specs.Refusal.{firstRefusal, releaseTests, tickTests}
+use Rattle.bench.specs.Serving.{units, less, worked}
+use Rattle.bench.specs.Step.{emptyBench, opened, fresh, started, served, moved, taken, release, tick}
+use Rattle.bench.specs.History.{Call, releases, ticks, doCall, after, isTaken, brought, gave, accepted, servedIn}
+use Rattle.bench.proofs.Record.{sound-fits}
+use Rattle.bench.proofs.Permitted.{MayRelease, may-release}
+use Rattle.bench.proofs.Units.{unit-le-work, worked-at}
+use Rattle.bench.proofs.Steps.{release-taken, release-refused, tick-taken, tick-refused}
+use Rattle.bench.proofs.Kept.{Kept, kept-call, kept-opened, opened-empty}
+
+-- A permitted release at a place, seen from that place and from another.
+module _ (b : Bench) (place demand : ℕ) (k : Kept b) (m : MayRelease b place demand) where
+  pub started-here : stateAt (started b place demand) place ≡ fresh (b .now .0) demand
+  unfolding started
+  started-here =
+      let fits = sound-fits (b .cores) (b .table) (k .whole .sound) in
+      let l : place - 1 < length (b .states) = omega (arith, m .low, m .high, length-rows (b .table), k .long) in
+      getD-set-same (b .states) (place - 1) (fresh (b .now .0) demand) idle l
+
+  pub started-elsewhere : (other : ℕ) → 0 < other → (other ≡ place → ⊥) → stateAt (started b place demand) other ≡ stateAt b other
+  unfolding started
+  started-elsewhere other h n =
+      getD-set-other (b .states) (place - 1) (other - 1) (fresh (b .now .0) demand) idle (λ e. n (omega (arith, m .low)))
+
+-- A tick, seen from a place.
+pub moved-at : (b : Bench) (place : ℕ) → stateAt (moved b) place ≡ less (getD (served b) (place - 1) 0) (stateAt b place)
+unfolding moved
+moved-at b place = worked-at (served b) (b .states) (place - 1)
+
+pub served-le-work : (b : Bench) (place : ℕ) → 0 < place → place ≤ length (rows b) → getD (served b) (place - 1) 0 ≤ work (stateAt b place)
+unfolding served
+served-le-work b place low high =
+    rw (getD-take (length (rows b)) (b .states) (place - 1) idle (omega arith)) at (unit-le-work (b .cores) (place - 1) (take (length (rows b)) (b .states)))
+
+-- One call balances.
+module _ (b : Bench) (k : Kept b) (place : ℕ) (low : 0 < place) (high : place ≤ length (rows b)) where
+  release-balance : (other demand : ℕ) → work (stateAt b place) + brought place b (releases other demand) ≡ work (stateAt (release b other demand .bench) place)
+  unfolding brought isTaken
+  release-balance other demand = go (firstRefusal (releaseTests b other demand)) refl
+    where
+      here : (t : Bool) → eqb other place ≡ t → MayRelease b other demand
+          → work (stateAt b place) + elim (t && true) [ true ↦ demand | false ↦ 0 ] ≡ work (stateAt (started b other demand) place)
+      here true q m =
+          let e = eqb-true other place q in
+          let d = ap (λ p. work (stateAt b p)) e in
+          let s = ap work (started-here b other demand k m) in
+          let p = ap (λ p. work (stateAt (started b other demand) p)) e in
+          omega (arith, m .done)
+      here false q m =
+          let s = ap work (started-elsewhere b other demand k m place low (λ e. eqb-false other place q (sym e))) in
+          omega arith
+
+      go : (found : Option Refusal) → firstRefusal (releaseTests b other demand) ≡ found
+          → work (stateAt b place) + elim (eqb other place && isTaken (release b other demand .outcome)) [ true ↦ demand | false ↦ 0 ] ≡ work (stateAt (release b other demand .bench) place)
+      go none q = rw (release-taken b other demand q) (here (eqb other place) refl (may-release b other demand q))
+      go (some why) q = rw (release-refused b other demand why q) (refused (eqb other place))
+        where
+          refused : (t : Bool) → work (stateAt b place) + elim (t && false) [ true ↦ demand | false ↦ 0 ] ≡ work (stateAt b place)
+          refused true = add-zero (work (stateAt b place))
+          refused false = add-zero (work (stateAt b place))
+
+  tick-balance : work (stateAt b place) ≡ gave place b ticks + work (stateAt (tick b .bench) place)
+  unfolding gave isTaken taken less
+  tick-balance = go (firstRefusal (tickTests b)) refl
+    where
+      go : (found : Option Refusal) → firstRefusal (tickTests b) ≡ found
+          → work (stateAt b place) ≡ elim (isTaken (tick b .outcome)) [ true ↦ getD (served b) (place - 1) 0 | false ↦ 0 ] + work (stateAt (tick b .bench) place)
+      go none q =
+          let m = ap work (moved-at b place) in
+          rw (tick-taken b q) (omega (arith, served-le-work b place low high))
+      go (some why) q = rw (tick-refused b why q) (sym (zero-add (work (stateAt b place))))
+
+  pub call-balance : (call : Call) → work (stateAt b place) + brought place b call ≡ gave place b call + work (stateAt (doCall b call .bench) place)
+  unfolding brought gave
+  call-balance (releases other demand) = release-balance other demand ∙ sym (zero-add (work (stateAt (release b other demand .bench) place)))
+  call-balance ticks = add-zero (work (stateAt b place)) ∙ tick-balance
+
+-- the rows of the bench stay
+pub same-rows : (b : Bench) (call : Call) → rows (doCall b call .bench) ≡ rows b
+unfolding taken moved started
+same-rows b (releases place demand) = go (firstRefusal (releaseTests b place demand)) refl
+  where
+    go : (found : Option Refusal) → firstRefusal (releaseTests b place demand) ≡ found → rows (release b place demand .bench) ≡ rows b
+    go none q = rw (release-taken b place demand q)
+    go (some why) q = rw (release-refused b place demand why q)
+same-rows b ticks = go (firstRefusal (tickTests b)) refl
+  where
+    go : (found : Option Refusal) → firstRefusal (tickTests b) ≡ found → rows (tick b .bench) ≡ rows b
+    go none q = rw (tick-taken b q)
+    go (some why) q = rw (tick-refused b why q)
+
+-- A history balances, from any well kept bench,
+pub balance : (calls : List Call) (b : Bench) → Kept b → (place : ℕ) → 0 < place → place ≤ length (rows b)
+    → work (stateAt b place) + accepted place b calls ≡ servedIn place b calls + work (stateAt (after b calls) place)
+unfolding accepted servedIn after
+balance [] b k place low high = omega arith
+balance (call ∷ calls) b k place low high =
+    let b' = doCall b call .bench in
+    let one = call-balance b k place low high call in
+    let h : place ≤ length (rows b') = rw (same-rows b call) high in
+    let more = balance calls b' (kept-call b call k) place low h in
+    omega arith
+
+-- and from an empty one: for each row, demand accepted equals units served plus what remains.
+pub empty-balance : (cores : ℕ) (table : Table) (b : Bench) → opened cores table ≡ some b → (calls : List Call) (place : ℕ) → 0 < place → place ≤ length (rows b)
+    → accepted place b calls ≡ servedIn place b calls + work (stateAt (after b calls) place)
+unfolding emptyBench
+empty-balance cores table b o calls place low high =
+    let (sound, same) = opened-empty cores table b o in
+    let none-yet : work (stateAt b place) ≡ 0 = rw same (ap work (getD-repeated rowCapacity (place - 1) idle)) in
+    let all = balance calls b (kept-opened cores table b o) place low high in
+    omega arith

@@ -1,0 +1,256 @@
+-- Rows below make no difference to serving: two runs that agree down to place k go on alike there, whatever happens below.
+use Prim.Native.Nat.{ℕ, zero, suc, _+_, _-_, _≤_, _<_}
+use native.Mathlib.Omega.{arith}
+use native.Mathlib.Nat.{zero-add}
+use mathlib.Core.Path.{_≡_, refl, sym, ap, _∙_}
+use mathlib.Core.Bool.{Bool, true, false, _&&_}
+use mathlib.Core.List.{List, [], _∷_}
+use mathlib.Core.Option.{Option, none, some}
+use lib.Dec.{leb, ltb}
+use lib.ListN.{length, getD, take, set, replicate}
+use lib.Seq.{getD-take, take-take, take-set-lt, take-set-le}
+use borrow.Author.Tests.{lt-ltb, le-ltb, ltb-true, ltb-false, leb-true, leb-false, ne-eqb}
+use Rattle.laws.proofs.Tests.{and-true}
+use Rattle.quantities.specs.Limits.{rowCapacity}
+use Rattle.quantities.specs.Row.{noRow}
+use Rattle.quantities.specs.Table.{rowsOf}
+use Rattle.quantities.specs.declared.Row.{Row}
+use Rattle.quantities.specs.declared.Table.{Table}
+use Rattle.bench.specs.declared.RowState.{RowState}
+use Rattle.bench.specs.declared.Bench.{Bench}
+use Rattle.bench.specs.declared.Refusal.{Refusal}
+use Rattle.bench.specs.declared.Finish.{Finish}
+use Rattle.bench.specs.declared.Outcome.{Outcome}
+use Rattle.bench.specs.declared.Outcome.the-variants.{Taken, Refused}
+use Rattle.bench.specs.Record.{lastInstant, idle, rows, rowAt, stateAt, broken}
+use Rattle.bench.specs.Refusal.{firstRefusal, releaseTests, tickTests}
+use Rattle.bench.specs.Serving.{units, worked, finished}
+use Rattle.bench.specs.Step.{emptyBench, opened, fresh, started, served, moved, taken, release, tick}
+use Rattle.bench.specs.History.{Call, releases, ticks, doCall, after, concerns, callsTo, finishesTo, Heard, heardOf, heard}
+use Rattle.bench.proofs.Record.{whole-unbroken}
+use Rattle.bench.proofs.Permitted.{MayRelease, may-release}
+use Rattle.bench.proofs.Steps.{release-taken, release-refused, tick-taken, tick-refused}
+use Rattle.bench.proofs.Kept.{Kept, kept-call, kept-opened, opened-empty}
+use Rattle.bench.proofs.Balance.{same-rows}
+use Rattle.bench.proofs.Prefix.{take-units, take-worked, take-finished}
+
+-- What two benches agree on down to place k.
+pub record Agree (k : ℕ) (b b' : Bench) : Type 0 where
+  pub cores : b .cores ≡ b' .cores
+  pub now : b .now .0 ≡ b' .now .0
+  pub rows : take k (rows b) ≡ take k (rows b')
+  pub states : take k (b .states) ≡ take k (b' .states)
+
+-- Two well kept benches that have k rows and agree down to place k.
+pub record Alike (k : ℕ) (b b' : Bench) : Type 0 where
+  pub agree : Agree k b b'
+  pub kept : Kept b
+  pub kept' : Kept b'
+  pub tall : k ≤ length (rows b)
+  pub tall' : k ≤ length (rows b')
+
+-- lists that agree down to k agree at each place down to k
+same-at : {A : Type 0} (k place : ℕ) (d : A) (xs ys : List A) → 0 < place → place ≤ k → take k xs ≡ take k ys → getD xs (place - 1) d ≡ getD ys (place - 1) d
+same-at k place d xs ys low high e =
+    sym (getD-take k xs (place - 1) d (omega arith)) ∙ ap (λ zs. getD zs (place - 1) d) e ∙ getD-take k ys (place - 1) d (omega arith)
+
+module _ (k : ℕ) (b b' : Bench) (a : Alike k b b') where
+  -- the same tests are passed
+  same-release-tests : (place demand : ℕ) → 0 < place → place ≤ k → firstRefusal (releaseTests b place demand) ≡ firstRefusal (releaseTests b' place demand)
+  unfolding releaseTests firstRefusal
+  same-release-tests place demand low high =
+      let n : (place ≡ 0 → ⊥) = λ e. omega arith in
+      let h : place ≤ length (rows b) = omega (arith, a .tall) in
+      let h' : place ≤ length (rows b') = omega (arith, a .tall') in
+      rw (
+        whole-unbroken b (a .kept .whole),
+        whole-unbroken b' (a .kept' .whole),
+        le-ltb (length (rows b)) place h,
+        le-ltb (length (rows b')) place h',
+        same-at k place noRow (rows b) (rows b') low high (a .agree .rows),
+        same-at k place idle (b .states) (b' .states) low high (a .agree .states),
+        a .agree .now,
+      )
+
+  same-tick-tests : firstRefusal (tickTests b) ≡ firstRefusal (tickTests b')
+  unfolding tickTests firstRefusal
+  same-tick-tests = rw (whole-unbroken b (a .kept .whole), whole-unbroken b' (a .kept' .whole), a .agree .now)
+
+  -- a poll that starts at a place down to k
+  agree-started : (place demand : ℕ) → 0 < place → place ≤ k → Agree k (started b place demand) (started b' place demand)
+  unfolding started
+  agree-started place demand low high =
+      let i : place - 1 < k = omega arith in
+      record {
+        cores = a .agree .cores;
+        now = a .agree .now;
+        rows = a .agree .rows;
+        states = rw (take-set-lt k (b .states) (place - 1) (fresh (b .now .0) demand) i, take-set-lt k (b' .states) (place - 1) (fresh (b' .now .0) demand) i, a .agree .states, a .agree .now);
+      }
+
+  -- a poll that starts below
+  agree-below : (place demand : ℕ) → k < place → Agree k (started b place demand) b'
+  unfolding started
+  agree-below place demand h =
+      record {
+        cores = a .agree .cores;
+        now = a .agree .now;
+        rows = a .agree .rows;
+        states = rw (take-set-le k (b .states) (place - 1) (fresh (b .now .0) demand) (omega arith)) (a .agree .states);
+      }
+
+-- the units of the rows down to k are given by their states alone
+served-to : (k : ℕ) (b : Bench) → k ≤ length (rows b) → take k (served b) ≡ units (b .cores) (take k (b .states))
+unfolding served
+served-to k b h = rw (take-units, take-take k (length (rows b)) (b .states) h)
+
+module _ (k : ℕ) (b b' : Bench) (a : Alike k b b') where
+  same-served : take k (served b) ≡ take k (served b')
+  same-served = rw (served-to k b (a .tall), served-to k b' (a .tall'), a .agree .cores, a .agree .states)
+
+  agree-moved : Agree k (moved b) (moved b')
+  unfolding moved
+  agree-moved =
+      record {
+        cores = a .agree .cores;
+        now = ap suc (a .agree .now);
+        rows = a .agree .rows;
+        states = rw (take-worked, take-worked, same-served, a .agree .states);
+      }
+
+  same-finished : finishesTo k (taken b .finishes) ≡ finishesTo k (taken b' .finishes)
+  unfolding taken
+  same-finished =
+      rw (take-finished k (suc (b .now .0)) 0 k (zero-add k) (served b) (b .states), take-finished k (suc (b' .now .0)) 0 k (zero-add k) (served b') (b' .states), same-served, a .agree .states, a .agree .now)
+
+  -- A call that concerns the rows down to k leaves them alike and says the same of them.
+  release-alike : (place demand : ℕ) → 0 < place → place ≤ k
+      → Agree k (release b place demand .bench) (release b' place demand .bench) × (heardOf k (release b place demand) ≡ heardOf k (release b' place demand))
+  release-alike place demand low high = go (firstRefusal (releaseTests b place demand)) refl
+    where
+      go : (found : Option Refusal) → firstRefusal (releaseTests b place demand) ≡ found
+          → Agree k (release b place demand .bench) (release b' place demand .bench) × (heardOf k (release b place demand) ≡ heardOf k (release b' place demand))
+      go none q =
+          let q' = sym (same-release-tests k b b' a place demand low high) ∙ q in
+          rw (release-taken b place demand q, release-taken b' place demand q') (agree-started k b b' a place demand low high, refl)
+      go (some why) q =
+          let q' = sym (same-release-tests k b b' a place demand low high) ∙ q in
+          rw (release-refused b place demand why q, release-refused b' place demand why q') (a .agree, refl)
+
+  tick-alike : Agree k (tick b .bench) (tick b' .bench) × (heardOf k (tick b) ≡ heardOf k (tick b'))
+  unfolding taken
+  tick-alike = go (firstRefusal (tickTests b)) refl
+    where
+      heard-taken : heardOf k (taken b) ≡ heardOf k (taken b')
+      heard-taken = ap (λ polls. record { outcome = Taken; finishes = polls }) same-finished
+
+      go : (found : Option Refusal) → firstRefusal (tickTests b) ≡ found → Agree k (tick b .bench) (tick b' .bench) × (heardOf k (tick b) ≡ heardOf k (tick b'))
+      go none q =
+          let q' = sym (same-tick-tests k b b' a) ∙ q in
+          rw (tick-taken b q, tick-taken b' q') (agree-moved, heard-taken)
+      go (some why) q =
+          let q' = sym (same-tick-tests k b b' a) ∙ q in
+          rw (tick-refused b why q, tick-refused b' why q') (a .agree, refl)
+
+  -- A call that does not concern them leaves them as they were.
+  other-alike : (place demand : ℕ) → (ltb 0 place && leb place k) ≡ false → Agree k (release b place demand .bench) b'
+  other-alike place demand e = go (firstRefusal (releaseTests b place demand)) refl
+    where
+      go : (found : Option Refusal) → firstRefusal (releaseTests b place demand) ≡ found → Agree k (release b place demand .bench) b'
+      go none q =
+          let m = may-release b place demand q in
+          let past : leb place k ≡ false = rw (lt-ltb 0 place (m .low)) at e in
+          rw (release-taken b place demand q) (agree-below k b b' a place demand (leb-false place k past))
+      go (some why) q = rw (release-refused b place demand why q) (a .agree)
+
+-- One call, and whole histories, of which the second has only what concerns the rows down to k.
+tall-call : (k : ℕ) (b : Bench) (call : Call) → k ≤ length (rows b) → k ≤ length (rows (doCall b call .bench))
+tall-call k b call h = rw (same-rows b call) h
+
+concerned-alike : (k : ℕ) (b b' : Bench) (call : Call) → concerns k call ≡ true → Alike k b b'
+    → Alike k (doCall b call .bench) (doCall b' call .bench) × (heardOf k (doCall b call) ≡ heardOf k (doCall b' call))
+unfolding concerns
+concerned-alike k b b' call c a = let (same, told) = both call c in (
+  record {
+    agree = same;
+    kept = kept-call b call (a .kept);
+    kept' = kept-call b' call (a .kept');
+    tall = tall-call k b call (a .tall);
+    tall' = tall-call k b' call (a .tall');
+  },
+  told,
+)
+  where
+    both : (one : Call) → concerns k one ≡ true → Agree k (doCall b one .bench) (doCall b' one .bench) × (heardOf k (doCall b one) ≡ heardOf k (doCall b' one))
+    both (releases place demand) c =
+        let (low, high) = and-true (ltb 0 place) (leb place k) c in
+        release-alike k b b' a place demand (ltb-true 0 place low) (leb-true place k high)
+    both ticks c = tick-alike k b b' a
+
+unconcerned-alike : (k : ℕ) (b b' : Bench) (call : Call) → concerns k call ≡ false → Alike k b b' → Alike k (doCall b call .bench) b'
+unfolding concerns
+unconcerned-alike k b b' call c a =
+    record {
+      agree = left call c;
+      kept = kept-call b call (a .kept);
+      kept' = a .kept';
+      tall = tall-call k b call (a .tall);
+      tall' = a .tall';
+    }
+  where
+    left : (one : Call) → concerns k one ≡ false → Agree k (doCall b one .bench) b'
+    left (releases place demand) c = other-alike k b b' a place demand c
+    left ticks c = let z : _≡_ {A = ℕ} 0 1 = cc in absurd (omega arith)
+
+pub history-alike : (k : ℕ) (calls : List Call) (b b' : Bench) → Alike k b b'
+    → Alike k (after b calls) (after b' (callsTo k calls)) × (heard k b calls ≡ heard k b' (callsTo k calls))
+unfolding after callsTo heard
+history-alike k [] b b' a = (a, refl)
+history-alike k (call ∷ calls) b b' a = go (concerns k call) refl (history-alike k calls)
+  where
+    Result : Type 0
+    Result = Alike k (after b (call ∷ calls)) (after b' (callsTo k (call ∷ calls))) × (heard k b (call ∷ calls) ≡ heard k b' (callsTo k (call ∷ calls)))
+
+    go : (t : Bool) → concerns k call ≡ t
+        → ((c c' : Bench) → Alike k c c' → Alike k (after c calls) (after c' (callsTo k calls)) × (heard k c calls ≡ heard k c' (callsTo k calls)))
+        → Result
+    go true q more =
+        let (same, told) = concerned-alike k b b' call q a in
+        let (rest, told') = more (doCall b call .bench) (doCall b' call .bench) same in
+        rw (q, callsTo, heard, after) (rest, rw (q, told, told'))
+    go false q more =
+        let (rest, told') = more (doCall b call .bench) b' (unconcerned-alike k b b' call q a) in
+        rw (q, callsTo, heard, after) (rest, told')
+
+-- What two runs have in common down to place k: the instant, the states, and what is heard there.
+pub record SameTo (k : ℕ) (b b' : Bench) (calls calls' : List Call) : Type 0 where
+  pub now : after b calls .now .0 ≡ after b' calls' .now .0
+  pub states : take k (after b calls .states) ≡ take k (after b' calls' .states)
+  pub heard : heard k b calls ≡ heard k b' calls'
+
+-- Two benches that are alike down to place k, with histories whose calls that concern those rows agree one by one.
+pub alike-runs : (k : ℕ) (b b' : Bench) → Alike k b b' → (calls calls' : List Call) → callsTo k calls ≡ callsTo k calls' → SameTo k b b' calls calls'
+alike-runs k b b' a calls calls' e =
+    let self : Alike k b' b'
+    = record { agree = record { cores = refl; now = refl; rows = refl; states = refl }; kept = a .kept'; kept' = a .kept'; tall = a .tall'; tall' = a .tall' } in
+    let (one, told) = rw e at (history-alike k calls b b' a) in
+    let (two, told') = history-alike k calls' b' b' self in
+    record {
+      now = one .agree .now ∙ sym (two .agree .now);
+      states = one .agree .states ∙ sym (two .agree .states);
+      heard = told ∙ sym told';
+    }
+
+-- Rows below make no difference: opened on equal cores and tables that agree down to place k, whatever stands and happens below.
+pub rows-below : (k cores : ℕ) (table table' : Table) (b b' : Bench) → opened cores table ≡ some b → opened cores table' ≡ some b'
+    → k ≤ length (rowsOf table) → k ≤ length (rowsOf table') → take k (rowsOf table) ≡ take k (rowsOf table')
+    → (calls calls' : List Call) → callsTo k calls ≡ callsTo k calls' → SameTo k b b' calls calls'
+unfolding emptyBench
+rows-below k cores table table' b b' o o' tall tall' e =
+    let same = opened-empty cores table b o .1 in
+    let same' = opened-empty cores table' b' o' .1 in
+    let kept = rw same at (kept-opened cores table b o) in
+    let kept' = rw same' at (kept-opened cores table' b' o') in
+    rw (same, same')
+    (alike-runs k (emptyBench cores table) (emptyBench cores table')
+    (record { agree = record { cores = refl; now = refl; rows = e; states = refl }; kept = kept; kept' = kept'; tall = tall; tall' = tall' }))

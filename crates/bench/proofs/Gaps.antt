@@ -1,0 +1,26 @@
+-- When a release keeps the gap: at the earliest T ticks after the last one, and a first release at each instant.
+use Prim.Native.Nat.{ℕ, _+_, _-_, _≤_, _<_}
+use native.Mathlib.Omega.{arith}
+use mathlib.Core.Path.{_≡_, refl}
+use mathlib.Core.Bool.{true, false}
+use borrow.Author.Tests.{lt-ltb, le-ltb, ltb-false}
+use Rattle.quantities.specs.declared.Instant.{Instant}
+use Rattle.bench.specs.declared.Last.the-variants.{Never, At}
+use Rattle.bench.specs.Refusal.{tooSoon}
+
+pub first-never-soon : (now gap : ℕ) → tooSoon now gap Never ≡ false
+unfolding tooSoon
+first-never-soon now gap = refl
+
+pub gap-over : (now gap : ℕ) (at : Instant) → at .0 + gap ≤ now → tooSoon now gap (At at) ≡ false
+unfolding tooSoon
+gap-over now gap at h = le-ltb (now - at .0) gap (omega arith)
+
+pub gap-not-over : (now gap : ℕ) (at : Instant) → now < at .0 + gap → at .0 ≤ now → tooSoon now gap (At at) ≡ true
+unfolding tooSoon
+gap-not-over now gap at h past = lt-ltb (now - at .0) gap (omega arith)
+
+-- what a release that is not too soon says of the last one
+pub gap-kept : (now gap : ℕ) (at : Instant) → at .0 ≤ now → tooSoon now gap (At at) ≡ false → at .0 + gap ≤ now
+unfolding tooSoon
+gap-kept now gap at past e = omega (arith, ltb-false (now - at .0) gap e)

@@ -1,0 +1,127 @@
+-- What a tick's answer says: each poll listed is of a row that got its last unit in this tick, with the ticks since its release.
+use Prim.Native.Nat.{ℕ, zero, suc, _+_, _-_, _≤_, _<_}
+use native.Mathlib.Nat.{add-zero}
+use native.Mathlib.Omega.{arith}
+use mathlib.Core.Path.{_≡_, refl, sym, ap, _∙_}
+use mathlib.Core.Bool.{Bool, true, false, _&&_}
+use mathlib.Core.List.{List, [], _∷_}
+use lib.Dec.{eqb, ltb}
+use lib.ListN.{length, getD, take, length-take}
+use lib.Seq.{getD-take}
+use borrow.Author.Tests.{ltb-true, eqb-true}
+use Rattle.laws.specs.Each.{Each}
+use Rattle.laws.proofs.Tests.{and-true}
+use Rattle.bench.specs.declared.RowState.{RowState}
+use Rattle.bench.specs.declared.Bench.{Bench}
+use Rattle.bench.specs.declared.Finish.{Finish}
+use Rattle.bench.specs.Record.{idle, work, rows, stateAt}
+use Rattle.bench.specs.Serving.{units, ends, since, finishOf, finished}
+use Rattle.bench.specs.Step.{served, taken}
+use Rattle.bench.proofs.Units.{unit-le-one}
+use Rattle.bench.proofs.Serving.{length-units}
+use Rattle.bench.proofs.Balance.{served-le-work}
+
+-- A poll ended, at an instant, of a row that stands from a place on, with these units and states.
+pub record Listed (instant place : ℕ) (us : List ℕ) (states : List RowState) (poll : Finish) : Type 0 where
+  pub index : ℕ
+  pub within : index < length us
+  pub at-place : poll .place ≡ place + index
+  pub got : 0 < getD us index 0
+  pub done : work (getD states index idle) - getD us index 0 ≡ 0
+  pub response : poll .response .0 ≡ since instant (getD states index idle .last)
+
+-- one place lower
+listed-below : (instant place u : ℕ) (us : List ℕ) (s : RowState) (states : List RowState) (poll : Finish)
+    → Listed instant (suc place) us states poll → Listed instant place (u ∷ us) (s ∷ states) poll
+listed-below instant place u us s states poll l =
+    record {
+      index = suc (l .index);
+      within = omega (arith, l .within);
+      at-place = omega (arith, l .at-place);
+      got = l .got;
+      done = l .done;
+      response = l .response;
+    }
+
+each-below : (instant place u : ℕ) (us : List ℕ) (s : RowState) (states : List RowState) (polls : List Finish)
+    → Each (Listed instant (suc place) us states) polls → Each (Listed instant place (u ∷ us) (s ∷ states)) polls
+each-below instant place u us s states [] e = tt
+each-below instant place u us s states (poll ∷ polls) (l, e) =
+    (listed-below instant place u us s states poll l, each-below instant place u us s states polls e)
+
+-- each poll of the list is so
+pub each-listed : (instant place : ℕ) (us : List ℕ) (states : List RowState) → Each (Listed instant place us states) (finished instant place us states)
+unfolding finished finishOf ends
+each-listed instant place [] states = tt
+each-listed instant place (u ∷ us) [] = tt
+each-listed instant place (u ∷ us) (s ∷ states) = go (ends u s) refl (each-below instant place u us s states (finished instant (suc place) us states) (each-listed instant (suc place) us states))
+  where
+    go : (t : Bool) → ends u s ≡ t → Each (Listed instant place (u ∷ us) (s ∷ states)) (finished instant (suc place) us states)
+        → Each (Listed instant place (u ∷ us) (s ∷ states)) (elim t [ true ↦ finishOf instant place s ∷ finished instant (suc place) us states | false ↦ finished instant (suc place) us states ])
+    go true q rest =
+        let (g, d) = and-true (ltb 0 u) (eqb (work s - u) 0) q in (
+          record {
+            index = 0;
+            within = omega arith;
+            at-place = sym (add-zero place);
+            got = ltb-true 0 u g;
+            done = eqb-true (work s - u) 0 d;
+            response = refl;
+          },
+          rest,
+        )
+    go false q rest = rest
+
+-- A poll that ended in a tick of a bench: of one of its rows, which got a unit and had one left.
+pub record Ends (b : Bench) (poll : Finish) : Type 0 where
+  pub low : 0 < poll .place
+  pub high : poll .place ≤ length (rows b)
+  pub got : getD (served b) (poll .place - 1) 0 ≡ 1
+  pub last-unit : work (stateAt b (poll .place)) ≡ 1
+  pub response : poll .response .0 ≡ since (suc (b .now .0)) (stateAt b (poll .place) .last)
+
+listed-ends : (b : Bench) (poll : Finish) → Listed (suc (b .now .0)) 1 (served b) (b .states) poll → Ends b poll
+unfolding served
+listed-ends b poll l =
+    let i : poll .place - 1 ≡ l .index = omega (arith, l .at-place) in
+    let n = length-units (b .cores) (take (length (rows b)) (b .states)) in
+    let m = length-take (length (rows b)) (b .states) in
+    let high : poll .place ≤ length (rows b) = omega (arith, l .within, l .at-place) in
+    let low : 0 < poll .place = omega (arith, l .at-place) in
+    let few = unit-le-one (b .cores) (l .index) (take (length (rows b)) (b .states)) in
+    let some-work = rw i at (served-le-work b (poll .place) low high) in
+    record {
+      low = low;
+      high = high;
+      got = rw i (omega (arith, l .got));
+      last-unit = rw i (omega (arith, l .got, l .done));
+      response = rw i (l .response);
+    }
+
+pub each-ends : (b : Bench) → Each (Ends b) (taken b .finishes)
+unfolding taken
+each-ends b = all (finished (suc (b .now .0)) 1 (served b) (b .states)) (each-listed (suc (b .now .0)) 1 (served b) (b .states))
+  where
+    all : (polls : List Finish) → Each (Listed (suc (b .now .0)) 1 (served b) (b .states)) polls → Each (Ends b) polls
+    all [] e = tt
+    all (poll ∷ polls) (l, e) = (listed-ends b poll l, all polls e)
+
+-- Polls in rising place, from a place on.
+abbrev pub Rising : ℕ → List Finish → Type 0
+Rising place [] = Unit {0}
+Rising place (poll ∷ polls) = (place ≤ poll .place) × Rising (suc (poll .place)) polls
+
+rising-from-lower : (place : ℕ) (polls : List Finish) → Rising (suc place) polls → Rising place polls
+rising-from-lower place [] r = tt
+rising-from-lower place (poll ∷ polls) (l, r) = (omega arith, r)
+
+pub rising-finished : (instant place : ℕ) (us : List ℕ) (states : List RowState) → Rising place (finished instant place us states)
+unfolding finished finishOf
+rising-finished instant place [] states = tt
+rising-finished instant place (u ∷ us) [] = tt
+rising-finished instant place (u ∷ us) (s ∷ states) = go (ends u s) (rising-finished instant (suc place) us states)
+  where
+    go : (t : Bool) → Rising (suc place) (finished instant (suc place) us states)
+        → Rising place (elim t [ true ↦ finishOf instant place s ∷ finished instant (suc place) us states | false ↦ finished instant (suc place) us states ])
+    go true r = (omega arith, r)
+    go false r = rising-from-lower place (finished instant (suc place) us states) r

@@ -1,0 +1,53 @@
+-- A call is taken where its tests permit it; else it is refused and nothing changes.
+use Prim.Native.Nat.{ℕ}
+use mathlib.Core.Path.{_≡_, refl}
+use mathlib.Core.List.{[]}
+use mathlib.Core.Option.{Option, none, some}
+use native.Mathlib.Omega.{arith}
+use Rattle.bench.specs.declared.Bench.{Bench}
+use Rattle.bench.specs.declared.Refusal.{Refusal}
+use Rattle.bench.specs.declared.Outcome.the-variants.{Taken, Refused}
+use Rattle.bench.specs.Refusal.{firstRefusal, releaseTests, tickTests}
+use Rattle.bench.specs.Step.{Step, unless, started, release, taken, tick}
+use Rattle.bench.specs.History.{Call, releases, ticks, doCall}
+
+abbrev pub refusedStep : Refusal → Bench → Step
+refusedStep why b = record { outcome = Refused why; finishes = []; bench = b }
+
+module _ (b : Bench) (place demand : ℕ) where
+  pub release-taken : firstRefusal (releaseTests b place demand) ≡ none
+      → release b place demand ≡ record { outcome = Taken; finishes = []; bench = started b place demand }
+  unfolding release unless
+  release-taken e = rw (e, unless)
+
+  pub release-refused : (why : Refusal) → firstRefusal (releaseTests b place demand) ≡ some why → release b place demand ≡ refusedStep why b
+  unfolding release unless
+  release-refused why e = rw (e, unless)
+
+module _ (b : Bench) where
+  pub tick-taken : firstRefusal (tickTests b) ≡ none → tick b ≡ taken b
+  unfolding tick unless
+  tick-taken e = rw (e, unless)
+
+  pub tick-refused : (why : Refusal) → firstRefusal (tickTests b) ≡ some why → tick b ≡ refusedStep why b
+  unfolding tick unless
+  tick-refused why e = rw (e, unless)
+
+-- A refused call changes nothing on the bench.
+pub refused-same : (b : Bench) (call : Call) (why : Refusal) → doCall b call .outcome ≡ Refused why → doCall b call ≡ refusedStep why b
+unfolding taken
+refused-same b (releases place demand) why = go (firstRefusal (releaseTests b place demand)) refl
+  where
+    go : (found : Option Refusal) → firstRefusal (releaseTests b place demand) ≡ found → release b place demand .outcome ≡ Refused why
+        → release b place demand ≡ refusedStep why b
+    go none q e = let z : _≡_ {A = ℕ} 0 1 = cc (release-taken b place demand q) in absurd (omega arith)
+    go (some other) q e =
+        let same : other ≡ why = cc (release-refused b place demand other q) in
+        rw same at (release-refused b place demand other q)
+refused-same b ticks why = go (firstRefusal (tickTests b)) refl
+  where
+    go : (found : Option Refusal) → firstRefusal (tickTests b) ≡ found → tick b .outcome ≡ Refused why → tick b ≡ refusedStep why b
+    go none q e = let z : _≡_ {A = ℕ} 0 1 = cc (tick-taken b q) in absurd (omega arith)
+    go (some other) q e =
+        let same : other ≡ why = cc (tick-refused b other q) in
+        rw same at (tick-refused b other q)

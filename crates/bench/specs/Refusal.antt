@@ -1,0 +1,71 @@
+-- What turns a call away, in the order of document 01, and the number and place of each refusal.
+use Prim.Native.Nat.{ℕ, _-_}
+use mathlib.Core.Bool.{Bool, true, false, _||_}
+use mathlib.Core.List.{List, [], _∷_}
+use mathlib.Core.Option.{Option, none, some}
+use lib.Dec.{eqb, ltb}
+use lib.ListN.{length}
+use Rattle.quantities.specs.Row.{cost, gap}
+use Rattle.bench.specs.declared.Last.{Last}
+use Rattle.bench.specs.declared.Last.the-variants.{Never, At}
+use Rattle.bench.specs.declared.Bench.{Bench}
+use Rattle.bench.specs.declared.Refusal.{Refusal}
+use Rattle.bench.specs.declared.Refusal.the-variants.{NoPlace, Unfinished, TooSoon, WrongDemand, ClockEnd, BrokenRecord}
+use Rattle.bench.specs.declared.Outcome.{Outcome}
+use Rattle.bench.specs.declared.Outcome.the-variants.{Taken, Refused}
+use Rattle.bench.specs.Record.{lastInstant, rows, rowAt, stateAt, work, broken}
+
+-- A test of a call: why the call is refused if it fails, and whether it fails.
+pub record Test : Type 0 where
+  pub why : Refusal
+  pub fails : Bool
+
+abbrev pub test : Refusal → Bool → Test
+test why fails = record { why = why; fails = fails }
+
+-- why a call is refused: the first test that fails
+unfoldable pub firstRefusal : List Test → Option Refusal
+firstRefusal [] = none
+firstRefusal (one ∷ rest) = elim (one .fails) [ true ↦ some (one .why) | false ↦ firstRefusal rest ]
+
+-- whether fewer than `gap` ticks are over since the last release; a first release is never too soon
+unfoldable pub tooSoon : (now gap : ℕ) → Last → Bool
+tooSoon now gap Never = false
+tooSoon now gap (At at) = ltb (now - at .0) gap
+
+-- the tests of a release of `demand` at `place`: 29, 20, 23, 22, 21
+unfoldable pub releaseTests : Bench → (place demand : ℕ) → List Test
+releaseTests b place demand =
+    test BrokenRecord (broken b)
+    ∷ test (NoPlace place) (eqb place 0 || ltb (length (rows b)) place)
+    ∷ test (WrongDemand place) (eqb demand 0 || ltb (cost (rowAt b place)) demand)
+    ∷ test (TooSoon place) (tooSoon (b .now .0) (gap (rowAt b place)) (stateAt b place .last))
+    ∷ test (Unfinished place) (ltb 0 (work (stateAt b place)))
+    ∷ []
+
+-- the tests of a tick: 29, 24
+unfoldable pub tickTests : Bench → List Test
+tickTests b = test BrokenRecord (broken b) ∷ test ClockEnd (eqb (b .now .0) lastInstant) ∷ []
+
+-- a refusal, or none, as the code's functions answer it
+unfoldable pub outcomeOf : Option Refusal → Outcome
+outcomeOf none = Taken
+outcomeOf (some why) = Refused why
+
+-- the number of document 01 for each refusal
+unfoldable pub numberOf : Refusal → ℕ
+numberOf (NoPlace place) = 20
+numberOf (Unfinished place) = 21
+numberOf (TooSoon place) = 22
+numberOf (WrongDemand place) = 23
+numberOf ClockEnd = 24
+numberOf BrokenRecord = 29
+
+-- and the place that stands with it
+unfoldable pub placeOf : Refusal → ℕ
+placeOf (NoPlace place) = place
+placeOf (Unfinished place) = place
+placeOf (TooSoon place) = place
+placeOf (WrongDemand place) = place
+placeOf ClockEnd = 0
+placeOf BrokenRecord = 0

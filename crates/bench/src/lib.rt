@@ -1,0 +1,433 @@
+//! The bench of document 01: a board run tick by tick. Its types and its steps by value.
+ghost use mathlib.Core.Path.{_≡_};
+ghost use Prim.Native.Nat.{_+_, _-_, _≤_, _<_};
+ghost use Rattle.quantities.specs.Limits.{rowCapacity};
+ghost use mathlib.Core.List.{[]};
+ghost use Rattle.bench.specs.Record.{lastInstant, rows, lastBroken, rowBroken, rowsBroken, broken};
+ghost use Rattle.bench.specs.Refusal.{outcomeOf, firstRefusal, releaseTests, tickTests, tooSoon};
+ghost use Rattle.bench.specs.Serving.{since, turnOf};
+ghost use Rattle.bench.specs.Ended.{finishesOf, noted};
+ghost use Rattle.bench.specs.Step.{emptyBench, noBench, openingOf, releasedOf, tickedOf, release, tick, taken};
+use quantities::Checked;
+use quantities::Instant;
+use quantities::Row;
+use quantities::Table;
+use quantities::Ticks;
+
+// When a row was last released.
+pub enum Last {
+    Never,
+    At(Instant),
+}
+
+// What the bench holds of a row: its last release, the demand released then, and what remains of it.
+pub struct RowState {
+    pub last: Last,
+    pub demand: Ticks,
+    pub left: Ticks,
+}
+
+// A board being run: its cores and table, the present instant, and a state for each row of the table.
+pub struct Bench {
+    pub cores: u32,
+    pub table: Table,
+    pub now: Instant,
+    pub states: [RowState; Table::ROW_CAPACITY],
+}
+
+// Why a call is turned away, at the place given: numbers 20 to 24 and 29 of document 01.
+pub enum Refusal {
+    NoPlace(usize),
+    Unfinished(usize),
+    TooSoon(usize),
+    WrongDemand(usize),
+    ClockEnd,
+    BrokenRecord,
+}
+
+// A call is taken, or refused for a reason.
+pub enum Outcome {
+    Taken,
+    Refused(Refusal),
+}
+
+// A poll that ended: the place of its row, and the ticks from its release to its end.
+pub struct Finish {
+    pub place: usize,
+    pub response: Ticks,
+}
+
+// The polls that ended in a tick, in rising place; entries from `count` on are blank.
+pub struct Finishes {
+    pub count: usize,
+    pub list: [Finish; Table::ROW_CAPACITY],
+}
+
+// The answer to an opening: what checks 1 to 6 found and, where they found nothing, the bench at instant 0.
+pub struct Opening {
+    pub found: Checked,
+    pub bench: Bench,
+}
+
+// The answer to a release, and the bench after it.
+pub struct Released {
+    pub outcome: Outcome,
+    pub bench: Bench,
+}
+
+// The answer to a tick, and the bench after it.
+pub struct Ticked {
+    pub outcome: Outcome,
+    pub finishes: Finishes,
+    pub bench: Bench,
+}
+
+// One row's part in a tick: its state after it, the cores still free, and whether its poll ended.
+struct Turn {
+    state: RowState,
+    free: u32,
+    ends: bool,
+}
+
+// Whether a last release is after the present instant, or there is work and no release.
+fn last_broken(now: Instant, last: Last, left: Ticks) -> bool
+    ensures { λ r. ⌜ r ≡ lastBroken (now .0) last (left .0) ⌝ }
+{
+    match last {
+        Last::Never => 0 < left.0,
+        Last::At(at) => now.0 < at.0,
+    }
+}
+
+// Whether a row's state is none that a run makes.
+fn row_broken(now: Instant, row: Row, state: RowState) -> bool
+    ensures { λ r. ⌜ r ≡ rowBroken (now .0) row state ⌝ }
+{
+    let last = state.last;
+    if last_broken(now, last, state.left) {
+        return true;
+    }
+    if row.c.0 < state.demand.0 {
+        return true;
+    }
+    state.demand.0 < state.left.0
+}
+
+// Whether one of the rows has a state that no run makes.
+fn rows_broken(b: Bench) -> bool
+    requires { ⌜ b .table .count ≤ rowCapacity ⌝ }
+    ensures { λ r. ⌜ r ≡ rowsBroken (b .now .0) (rows b) (b .states) ⌝ }
+{
+    let table = b.table;
+    let mut i: usize = 0;
+    while i < table.count {
+        let row = table.rows[i];
+        let state = b.states[i];
+        if row_broken(b.now, row, state) {
+            return true;
+        }
+        i += 1;
+    }
+    false
+}
+
+// Whether a row with this gap was released fewer than that many ticks ago.
+fn too_soon(now: Instant, gap: Ticks, last: Last) -> bool
+    ensures { λ r. ⌜ r ≡ tooSoon (now .0) (gap .0) last ⌝ }
+{
+    match last {
+        Last::Never => false,
+        Last::At(at) => {
+            if now.0 < at.0 {
+                return 0 < gap.0;
+            }
+            now.0 - at.0 < gap.0
+        }
+    }
+}
+
+// The ticks from a last release to an instant.
+fn since(instant: Instant, last: Last) -> Ticks
+    ensures { λ r. ⌜ r ≡ record { 0 = since (instant .0) last } ⌝ }
+{
+    match last {
+        Last::Never => Ticks(0),
+        Last::At(at) => {
+            if instant.0 < at.0 {
+                return Ticks(0);
+            }
+            Ticks(instant.0 - at.0)
+        }
+    }
+}
+
+// One row's part in a tick when so many cores are free.
+fn serve_row(state: RowState, free: u32) -> Turn
+    ensures { λ r. ⌜ r ≡ turnOf free state ⌝ }
+{
+    let left = state.left.0;
+    if free == 0 {
+        return Turn {
+            state: state,
+            free: free,
+            ends: false,
+        };
+    }
+    if left == 0 {
+        return Turn {
+            state: state,
+            free: free,
+            ends: false,
+        };
+    }
+    let last = state.last;
+    let demand = state.demand;
+    let next = RowState {
+        last: last,
+        demand: demand,
+        left: Ticks(left - 1),
+    };
+    Turn {
+        state: next,
+        free: free - 1,
+        ends: left == 1,
+    }
+}
+
+impl Finishes {
+    // The list of no polls.
+    fn none() -> Finishes
+        ensures { λ r. ⌜ r ≡ finishesOf [] ⌝ }
+    {
+        let blank = Finish {
+            place: 0,
+            response: Ticks(0),
+        };
+        let list = [blank; Table::ROW_CAPACITY];
+        Finishes {
+            count: 0,
+            list: list,
+        }
+    }
+
+    // The list with one poll more, if it ended.
+    fn noted(mut self, ended: bool, poll: Finish) -> Finishes
+        requires { ⌜ self .count < rowCapacity ⌝ }
+        ensures { λ r. ⌜ r ≡ noted self ended poll ⌝ }
+    {
+        if ended {
+            let count = self.count;
+            self.list[count] = poll;
+            self.count = count + 1;
+        }
+        self
+    }
+}
+
+// What a tick that is not refused does.
+fn serve(b: Bench) -> Ticked
+    requires { ⌜ (b .table .count ≤ rowCapacity) × (b .now .0 < lastInstant) ⌝ }
+    ensures { λ r. ⌜ r ≡ tickedOf (taken b) ⌝ }
+{
+    let end = Instant(b.now.0 + 1);
+    let table = b.table;
+    let mut states = b.states;
+    let mut free = b.cores;
+    let mut finishes = Finishes::none();
+    let mut i: usize = 0;
+    while i < table.count {
+        let state = states[i];
+        let turn = serve_row(state, free);
+        let next = turn.state;
+        states[i] = next;
+        free = turn.free;
+        let last = state.last;
+        let response = since(end, last);
+        let poll = Finish {
+            place: i + 1,
+            response: response,
+        };
+        finishes = finishes.noted(turn.ends, poll);
+        i += 1;
+    }
+    let bench = Bench {
+        cores: b.cores,
+        table: table,
+        now: end,
+        states: states,
+    };
+    Ticked {
+        outcome: Outcome::Taken,
+        finishes: finishes,
+        bench: bench,
+    }
+}
+
+impl Bench {
+    pub const LAST_INSTANT: u64 = 1_000_000_000;
+
+    pub fn last_instant() -> Instant
+        ensures { λ r. ⌜ r ≡ record { 0 = lastInstant } ⌝ }
+    {
+        Instant(Bench::LAST_INSTANT)
+    }
+
+    // The bench of a table with no row, which stands where an opening is refused.
+    fn none() -> Bench
+        ensures { λ r. ⌜ r ≡ noBench ⌝ }
+    {
+        Bench::empty(0, Table::empty())
+    }
+
+    // The bench of a table at instant 0, with no row released.
+    fn empty(cores: u32, table: Table) -> Bench
+        ensures { λ r. ⌜ r ≡ emptyBench cores table ⌝ }
+    {
+        let never = Last::Never;
+        let idle = RowState {
+            last: never,
+            demand: Ticks(0),
+            left: Ticks(0),
+        };
+        let states = [idle; Table::ROW_CAPACITY];
+        Bench {
+            cores: cores,
+            table: table,
+            now: Instant(0),
+            states: states,
+        }
+    }
+
+    // A bench for a table that passes checks 1 to 6, at instant 0.
+    pub fn opened(cores: u32, table: Table) -> Opening
+        ensures { λ r. ⌜ r ≡ openingOf cores table ⌝ }
+    {
+        let found = table.check(cores);
+        match found {
+            Checked::Sound => {}
+            Checked::Faulty(fault) => {
+                let none = Bench::none();
+                return Opening {
+                    found: Checked::Faulty(fault),
+                    bench: none,
+                };
+            }
+        }
+        let bench = Bench::empty(cores, table);
+        Opening {
+            found: Checked::Sound,
+            bench: bench,
+        }
+    }
+
+    // Whether the record is one that no run makes: number 29.
+    pub fn broken(self) -> bool
+        ensures { λ r. ⌜ r ≡ broken self ⌝ }
+    {
+        let found = self.table.check(self.cores);
+        match found {
+            Checked::Sound => {}
+            Checked::Faulty(_) => {
+                return true;
+            }
+        }
+        if Bench::LAST_INSTANT < self.now.0 {
+            return true;
+        }
+        rows_broken(self)
+    }
+
+    // Whether a release of `demand` at `place` is taken or, by the first of 29, 20, 23, 22, 21 that applies, refused.
+    pub fn judge_release(self, place: usize, demand: Ticks) -> Outcome
+        ensures { λ r. ⌜ r ≡ outcomeOf (firstRefusal (releaseTests self place (demand .0))) ⌝ }
+    {
+        if self.broken() {
+            return Outcome::Refused(Refusal::BrokenRecord);
+        }
+        if place == 0 {
+            return Outcome::Refused(Refusal::NoPlace(place));
+        }
+        if self.table.count < place {
+            return Outcome::Refused(Refusal::NoPlace(place));
+        }
+        let i = place - 1;
+        let table = self.table;
+        let row = table.rows[i];
+        let state = self.states[i];
+        let last = state.last;
+        if demand.0 == 0 {
+            return Outcome::Refused(Refusal::WrongDemand(place));
+        }
+        if row.c.0 < demand.0 {
+            return Outcome::Refused(Refusal::WrongDemand(place));
+        }
+        if too_soon(self.now, row.t, last) {
+            return Outcome::Refused(Refusal::TooSoon(place));
+        }
+        if 0 < state.left.0 {
+            return Outcome::Refused(Refusal::Unfinished(place));
+        }
+        Outcome::Taken
+    }
+
+    // Whether a tick is taken or, by the first of 29 and 24 that applies, refused.
+    pub fn judge_tick(self) -> Outcome
+        ensures { λ r. ⌜ r ≡ outcomeOf (firstRefusal (tickTests self)) ⌝ }
+    {
+        if self.broken() {
+            return Outcome::Refused(Refusal::BrokenRecord);
+        }
+        if self.now.0 == Bench::LAST_INSTANT {
+            return Outcome::Refused(Refusal::ClockEnd);
+        }
+        Outcome::Taken
+    }
+
+    // A poll of `demand` at `place` starts at the present instant; a refused release changes nothing.
+    pub fn release(mut self, place: usize, demand: Ticks) -> Released
+        ensures { λ r. ⌜ r ≡ releasedOf (release self place (demand .0)) ⌝ }
+    {
+        let outcome = self.judge_release(place, demand);
+        match outcome {
+            Outcome::Refused(why) => {
+                return Released {
+                    outcome: Outcome::Refused(why),
+                    bench: self,
+                };
+            }
+            Outcome::Taken => {}
+        }
+        let now = self.now;
+        let last = Last::At(now);
+        let fresh = RowState {
+            last: last,
+            demand: demand,
+            left: demand,
+        };
+        let i = place - 1;
+        self.states[i] = fresh;
+        Released {
+            outcome: Outcome::Taken,
+            bench: self,
+        }
+    }
+
+    // Rows with work are served from the top, one unit each, as far as the cores go; the instant grows by one.
+    pub fn tick(self) -> Ticked
+        ensures { λ r. ⌜ r ≡ tickedOf (tick self) ⌝ }
+    {
+        let outcome = self.judge_tick();
+        match outcome {
+            Outcome::Refused(why) => {
+                let finishes = Finishes::none();
+                return Ticked {
+                    outcome: Outcome::Refused(why),
+                    finishes: finishes,
+                    bench: self,
+                };
+            }
+            Outcome::Taken => {}
+        }
+        serve(self)
+    }
+}
