@@ -1,0 +1,3 @@
+-- Laws of the sheet's definitions.
+pub mod Bytes
+pub mod Records
