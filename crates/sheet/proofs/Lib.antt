@@ -1,3 +1,4 @@
 -- Laws of the sheet's definitions.
 pub mod Bytes
 pub mod Records
+pub mod Entries

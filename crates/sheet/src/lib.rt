@@ -5,6 +5,7 @@ use quantities::Table;
 use quantities::Ticks;
 
 mod parse;
+mod rows;
 
 // The fields of a row record, as they stand on the sheet.
 pub struct RowFields {
@@ -24,4 +25,19 @@ pub enum Record {
     Board(u32, Micros),
     Row(RowFields),
     End(usize),
+}
+
+// A row of the table, in ticks, with the priority and the label that its record gave.
+pub struct Entry {
+    pub priority: u32,
+    pub label: u32,
+    pub row: Row,
+}
+
+// A board and its rows in rising priority: the first `count` entries; the capacity is the table's own.
+pub struct Sheet {
+    pub cores: u32,
+    pub tick: Micros,
+    pub count: usize,
+    pub entries: [Entry; Table::ROW_CAPACITY],
 }
