@@ -2,3 +2,5 @@
 pub mod Bytes
 pub mod Records
 pub mod Entries
+pub mod Checks
+pub mod Reader

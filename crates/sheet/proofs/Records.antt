@@ -6,9 +6,11 @@ use mathlib.Core.Bool.{Bool, true, false, cond}
 use mathlib.Core.List.{List, [], _∷_}
 use lib.Dec.{eqb}
 use lib.ListN.{length, getD}
+use native.Mathlib.Decide.{ℕ-discrete, decLe}
 use borrow.Author.Tests.{eq-eqb, ne-eqb, lt-ltb, le-ltb}
 use Rattle.sheet.specs.Bytes.{field}
 use Rattle.sheet.specs.Records.{boardKind, rowKind, endKind, recordLength, rowFields, wholeRecord, recordOn}
+use Rattle.sheet.specs.declared.Record.{Record}
 use Rattle.sheet.specs.declared.Record.the-variants.{Missing, Unknown, Cut, Board, Row, End}
 
 -- The lengths that the kinds fix.
@@ -87,3 +89,42 @@ module _ (kind : ℕ) (part : List ℕ) where
   pub whole-end : (kind ≡ boardKind → ⊥) → (kind ≡ rowKind → ⊥) → wholeRecord kind part ≡ End (field 1 1 part)
   unfolding wholeRecord
   whole-end no-board no-row = simp (ne-eqb kind boardKind no-board, ne-eqb kind rowKind no-row)
+
+-- What can stand on a part, with what that says of the part.
+pub data Found (part : List ℕ) : Record → Type 0 where
+  nothing : length part ≡ 0 → Found part Missing
+  unknown : 0 < length part → recordLength (getD part 0 0) ≡ 0 → Found part Unknown
+  cut : 0 < length part → length part < recordLength (getD part 0 0) → Found part (Cut (getD part 0 0))
+  board : getD part 0 0 ≡ boardKind → 4 ≤ length part → Found part (Board (field 1 1 part) (record { 0 = field 2 2 part }))
+  row : getD part 0 0 ≡ rowKind → 17 ≤ length part → Found part (Row (rowFields part))
+  end : recordLength (getD part 0 0) ≡ 2 → 2 ≤ length part → Found part (End (field 1 1 part))
+
+whole-found : (part : List ℕ) → (recordLength (getD part 0 0) ≡ 0 → ⊥) → recordLength (getD part 0 0) ≤ length part
+    → Found part (wholeRecord (getD part 0 0) part)
+whole-found part known long =
+    elim (ℕ-discrete (getD part 0 0) boardKind) [
+      | yes b ↦ rw (whole-board (getD part 0 0) part b) (board b (omega (arith, ap recordLength b, length-board)))
+      | no no-board ↦
+          elim (ℕ-discrete (getD part 0 0) rowKind) [
+            | yes r ↦ rw (whole-row (getD part 0 0) part no-board r) (row r (omega (arith, ap recordLength r, length-row)))
+            | no no-row ↦
+                rw
+                (whole-end (getD part 0 0) part no-board no-row)
+                (end (other-is-end (getD part 0 0) no-board no-row known) (omega (arith, other-is-end (getD part 0 0) no-board no-row known)))
+          ]
+    ]
+
+pub found : (part : List ℕ) → Found part (recordOn part)
+found part =
+    elim (ℕ-discrete (length part) 0) [
+      | yes none ↦ rw (on-nothing part none) (nothing none)
+      | no some ↦
+          elim (ℕ-discrete (recordLength (getD part 0 0)) 0) [
+            | yes none ↦ rw (on-unknown part (omega arith) none) (unknown (omega arith) none)
+            | no known ↦
+                elim (decLe (recordLength (getD part 0 0)) (length part)) [
+                  | no short ↦ rw (on-cut part (omega arith) known (omega arith)) (cut (omega arith) (omega arith))
+                  | yes long ↦ rw (on-whole part (omega arith) known long) (whole-found part known long)
+                ]
+          ]
+    ]

@@ -1,6 +1,6 @@
 -- The records of a sheet: a kind byte, then a body whose length the kind fixes.
 use Prim.Native.Nat.{ℕ, suc}
-use mathlib.Core.Bool.{cond}
+use mathlib.Core.Bool.{Bool, true, false, cond}
 use mathlib.Core.List.{List, [], _∷_}
 use lib.Dec.{eqb, ltb}
 use lib.ListN.{length}
@@ -59,3 +59,12 @@ kindOf (End count) = endKind
 -- how many bytes a record takes
 abbrev pub sizeOf : Record → ℕ
 sizeOf one = recordLength (kindOf one)
+
+-- whether a record is the end record
+unfoldable pub isEnd : Record → Bool
+isEnd Missing = false
+isEnd Unknown = false
+isEnd (Cut kind) = false
+isEnd (Board cores tick) = false
+isEnd (Row fields) = false
+isEnd (End count) = true

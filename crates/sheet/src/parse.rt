@@ -8,11 +8,11 @@ ghost use lib.ListN.{length};
 ghost use Rattle.sheet.specs.Bytes.{field};
 ghost use Rattle.sheet.specs.Records.{recordLength, rowFields, recordOn, sizeOf};
 
-const BOARD_KIND: u8 = 1;
+pub const BOARD_KIND: u8 = 1;
 
-const ROW_KIND: u8 = 2;
+pub const ROW_KIND: u8 = 2;
 
-const END_KIND: u8 = 3;
+pub const END_KIND: u8 = 3;
 
 // The length of a record by its kind, kind byte included; 0 for a kind that no record has.
 fn record_length(kind: u8) -> usize
