@@ -2,7 +2,7 @@
 use Prim.Native.Nat.{ℕ, zero, suc, _≤_, _<_}
 use native.Mathlib.Omega.{arith}
 use native.Mathlib.Decide.{ℕ-discrete}
-use mathlib.Core.Path.{_≡_, refl, ap}
+use mathlib.Core.Path.{_≡_, refl, ap, subst⁻¹}
 use mathlib.Core.List.{List}
 use lib.ListN.{length, getD, List·getD-map}
 use Rattle.laws.specs.Each.{Each}
@@ -42,7 +42,18 @@ fewer-above P rows bounds (suc k) i h each =
       | no other ↦ fewer-above P rows bounds k i (omega arith) (each .1)
     ]
 
+-- the row with index i and its bound, as the engine reads them
+abbrev pub entry : Table → List Ticks → ℕ → Bounded
+entry table bounds i = bounded (getD (table .rows) i noRow) (getD bounds i (ticks 0) .0)
+
 -- the row that the engine reads with its bound is the next of those above
 pub entry-above : (table : Table) (bounds : List Ticks) (i : ℕ) → i < table .count
-    → bounded (getD (table .rows) i noRow) (getD bounds i (ticks 0) .0) ≡ bounded (rowAt (rowsOf table) i) (getD (numbers bounds) i 0)
-entry-above table bounds i h = rw (row-at table i h, List·getD-map (λ (t : Ticks). t .0) bounds i (ticks 0)) refl
+    → entry table bounds i ≡ bounded (rowAt (rowsOf table) i) (getD (numbers bounds) i 0)
+entry-above table bounds i h =
+    rw (row-at table i h, List·getD-map (λ (t : Ticks). t .0) bounds i (ticks 0)) refl
+
+-- so what holds of each row above holds of what the engine reads
+pub each-entry : (P : Bounded → Type 0) (table : Table) (bounds : List Ticks) (k i : ℕ) → k ≤ table .count → i < k
+    → Each P (above table bounds k) → P (entry table bounds i)
+each-entry P table bounds k i within h each =
+    subst⁻¹ P (entry-above table bounds i (omega arith)) (each-above P (rowsOf table) (numbers bounds) k i h each)

@@ -1,15 +1,17 @@
 -- What the engine's inner functions ask for and leave. No promise is made in these words.
-use Prim.Native.Nat.{ℕ, zero, suc, _+_, _*_, _≤_, _<_, max}
+use Prim.Native.Nat.{ℕ, zero, suc, _+_, _-_, _*_, _≤_, _<_, min, max}
 use mathlib.Core.Path.{_≡_}
 use mathlib.Core.Option.{Option, none, some}
 use mathlib.Core.List.{List}
 use lib.ListN.{getD}
 use Rattle.laws.specs.Each.{Each}
 use Rattle.quantities.specs.Limits.{rowCapacity, coreLimit, largestGap}
+use Rattle.quantities.specs.Row.{gap, SoundRow}
 use Rattle.quantities.specs.Table.{rowsOf}
 use Rattle.quantities.specs.declared.Table.{Table}
 use Rattle.quantities.specs.declared.Ticks.{Ticks}
-use Rattle.windows.specs.Choice.{Bounded, InRange}
+use Rattle.windows.specs.Choice.{Bounded, InRange, load, loads, most}
+use Rattle.windows.specs.Jump.{room, rooms, stride}
 use Rattle.windows.specs.Judgement.{aboveAt}
 use Rattle.analysis.specs.Analysis.{numbers, ticks}
 use Rattle.analysis.specs.declared.Found.{Found}
@@ -24,6 +26,7 @@ pub record Ready (cores : ℕ) (table : Table) (bounds : List Ticks) (k : ℕ) :
   pub some-cores : 0 < cores
   pub few-cores : cores ≤ coreLimit
   pub few-rows : table .count ≤ rowCapacity
+  pub sound : Each SoundRow (rowsOf table)
   pub within : k ≤ table .count
   pub range : Each InRange (above table bounds k)
 
@@ -38,6 +41,32 @@ pub record CanRaise (mosts : List ℕ) (carriers without carrying : ℕ) : Type 
   pub small-without : without ≤ suc largestGap
   pub small-carrying : carrying ≤ suc largestGap
   pub small : (m : ℕ) → m ≤ carriers → getD mosts m 0 ≤ rowCapacity * suc largestGap
+
+-- How many rows have room, and the least room of these, when one row more comes with this room.
+unfoldable pub countWith : (room count : ℕ) → ℕ
+countWith zero count = count
+countWith (suc room) count = suc count
+
+unfoldable pub leastWith : (room least : ℕ) → ℕ
+leastWith zero least = least
+leastWith (suc room) least = min (suc room) least
+
+-- A row above with its bound, and a window, whose load can be taken with no sum too large.
+pub record CanLoad (b : Bounded) (x : ℕ) : Type 0 where
+  pub range : InRange b
+  pub short-gap : gap (b .row) ≤ largestGap
+  pub short-window : x ≤ largestGap
+
+-- What is said of a load that the code takes.
+pub record LoadIs (own x : ℕ) (b : Bounded) (w c r : ℕ) : Type 0 where
+  pub without : w ≡ load own x b .without
+  pub carrying : c ≡ load own x b .carrying
+  pub roominess : r ≡ room own x b
+
+-- What is said of what the rows above take.
+pub record TakenIs (cores own x : ℕ) (rows : List Bounded) (m s : ℕ) : Type 0 where
+  pub mostly : m ≡ most (loads own x rows) (cores - 1)
+  pub striding : s ≡ stride cores largestGap (rooms own x rows)
 
 -- a window, or none, as the code answers it
 unfoldable pub foundOf : Option ℕ → Found

@@ -1,17 +1,19 @@
 //! The engine: the bounds of a table's rows from the top, and the answer.
 ghost use mathlib.Core.Path.{_≡_};
-ghost use Prim.Native.Nat.{ℕ, _+_, _-_, _*_, _≤_, _<_, max};
+ghost use Prim.Native.Nat.{ℕ, _+_, _-_, _*_, _/_, _≤_, _<_, min, max};
 ghost use lib.ListN.{getD};
 ghost use Rattle.quantities.specs.Row.{cost, deadline, gap};
 ghost use Rattle.quantities.specs.Limits.{rowCapacity, coreLimit, largestGap};
 ghost use Rattle.quantities.specs.Table.{rowsOf};
 ghost use Rattle.windows.specs.Choice.{InRange, bounded, load, loads, most};
 ghost use Rattle.windows.specs.Jump.{room, rooms, stride};
-ghost use Rattle.windows.specs.Bound.{boundOf};
+ghost use mathlib.Core.List.{[]};
+ghost use Rattle.quantities.specs.Checks.{SoundList};
+ghost use Rattle.windows.specs.Bound.{boundOf, boundsBelow};
 ghost use Rattle.windows.specs.Answer.{judged, verdict};
 ghost use Rattle.windows.specs.Judgement.{rowAt};
 ghost use Rattle.analysis.specs.Analysis.{ticks, numbers, analysisOf};
-ghost use Rattle.analysis.specs.Engine.{Ready, CanRaise, above, raisedAt, foundOf};
+ghost use Rattle.analysis.specs.Engine.{Ready, CanRaise, CanLoad, LoadIs, TakenIs, above, raisedAt, countWith, leastWith, foundOf};
 use quantities::Checked;
 use quantities::Row;
 use quantities::Table;
@@ -24,31 +26,30 @@ pub struct Analysis {
     pub bounds: [Ticks; Table::ROW_CAPACITY],
 }
 
-// What one row above takes from the row judged, without and with carry-in.
+// What one row above takes from the row judged, without and with carry-in, and how far the window can grow with the
+// row taking every tick of it.
 struct Load {
     without: u64,
     carrying: u64,
+    room: u64,
+}
+
+// What the rows above take from the row judged, and the ticks that they have room for on every core.
+struct Taken {
+    most: u64,
+    stride: u64,
+}
+
+// How many of the rows above have room, and the least room of these.
+struct Rooms {
+    count: usize,
+    least: u64,
 }
 
 // The least window that passes, if there is one.
 enum Found {
     At(Ticks),
     Nothing,
-}
-
-// What a row above with this bound takes from a row with this own cost, in a window.
-fn load_of(own: Ticks, window: Ticks, row: Row, bound: Ticks) -> Load
-    requires { ⌜ InRange (bounded row (bound .0)) ⌝ }
-    ensures { λ r. ⌜ (r .without ≡ load (own .0) (window .0) (bounded row (bound .0)) .without) × (r .carrying ≡ load (own .0) (window .0) (bounded row (bound .0)) .carrying) ⌝ }
-{
-    let plain = windows::plain_work(row, window);
-    let carry = windows::carry_work(row, bound, window);
-    let without = windows::interference(own, window, plain);
-    let carrying = windows::interference(own, window, carry);
-    Load {
-        without: without.0,
-        carrying: carrying.0,
-    }
 }
 
 // The larger of two numbers.
@@ -59,6 +60,16 @@ fn larger(a: u64, b: u64) -> u64
         return b;
     }
     a
+}
+
+// The smaller of two numbers.
+fn smaller(a: u64, b: u64) -> u64
+    ensures { λ r. ⌜ r ≡ min a b ⌝ }
+{
+    if a < b {
+        return a;
+    }
+    b
 }
 
 // The most with each number of carriers, from 0 up to `carriers`, when one row more takes so much without and with carry-in.
@@ -83,20 +94,69 @@ fn raised(
     mosts
 }
 
-// The most that the rows above index k take from a row with this own cost, in a window.
-fn most_above(
+// The work of the polls of a row that came in a window, the present one whole.
+fn polls_in(window: u64, gap: u64, cost: u64) -> u64
+    requires { ⌜ (0 < gap) × (cost ≤ gap) × (gap ≤ largestGap) × (window ≤ largestGap) ⌝ }
+    ensures { λ r. ⌜ r ≡ window / gap * cost + cost ⌝ }
+{
+    let gaps = window / gap;
+    let whole = gaps * cost;
+    whole + cost
+}
+
+// The count and the least with one room more.
+fn with_room(rooms: Rooms, room: u64) -> Rooms
+    requires { ⌜ rooms .count < rowCapacity ⌝ }
+    ensures { λ r. ⌜ (r .count ≡ countWith room (rooms .count)) × (r .least ≡ leastWith room (rooms .least)) ⌝ }
+{
+    if room == 0 {
+        return rooms;
+    }
+    let least = smaller(room, rooms.least);
+    Rooms {
+        count: rooms.count + 1,
+        least: least,
+    }
+}
+
+// The load of a row above with this bound on a row with this own cost, in a window.
+fn load_of(own: Ticks, window: Ticks, row: Row, bound: Ticks) -> Load
+    requires { ⌜ CanLoad (bounded row (bound .0)) (window .0) ⌝ }
+    ensures { λ r. ⌜ LoadIs (own .0) (window .0) (bounded row (bound .0)) (r .without) (r .carrying) (r .room) ⌝ }
+{
+    let polls = polls_in(window.0, row.t.0, row.c.0);
+    let plain = windows::plain_work(row, window);
+    let carry = windows::carry_work(row, bound, window);
+    let without = windows::interference(own, window, plain);
+    let carrying = windows::interference(own, window, carry);
+    let unfinished = polls - without.0;
+    let cut = carry.0 - carrying.0;
+    let room = smaller(unfinished, cut);
+    Load {
+        without: without.0,
+        carrying: carrying.0,
+        room: room,
+    }
+}
+
+// What the rows above index k take from a row with this own cost, in a window: one pass, the row next to it last.
+fn taken_above(
     cores: u32,
     table: Table,
     bounds: [Ticks; Table::ROW_CAPACITY],
     k: usize,
     own: Ticks,
     window: Ticks,
-) -> u64
+) -> Taken
     requires { ⌜ Ready cores table bounds k × (window .0 ≤ largestGap) ⌝ }
-    ensures { λ r. ⌜ r ≡ most (loads (own .0) (window .0) (above table bounds k)) (cores - 1) ⌝ }
+    ensures { λ r. ⌜ TakenIs cores (own .0) (window .0) (above table bounds k) (r .most) (r .stride) ⌝ }
 {
     let carriers = (cores - 1) as usize;
     let mut mosts = [0u64; Table::CORE_LIMIT as usize];
+    let mut rooms = Rooms {
+        count: 0,
+        least: Table::LARGEST_GAP,
+    };
     let mut i: usize = 0;
     while i < k {
         let row = table.rows[i];
@@ -104,7 +164,87 @@ fn most_above(
         let load = load_of(own, window, row, bound);
         let next = raised(mosts, carriers, load.without, load.carrying);
         mosts = next;
+        rooms = with_room(rooms, load.room);
         i += 1;
     }
-    mosts[carriers]
+    let most = mosts[carriers];
+    if rooms.count <= carriers {
+        return Taken {
+            most: most,
+            stride: 0,
+        };
+    }
+    Taken {
+        most: most,
+        stride: rooms.least,
+    }
+}
+
+// The bound of the row with index k, when the rows above it have theirs: the least window from C to D that passes.
+fn bound_of(cores: u32, table: Table, bounds: [Ticks; Table::ROW_CAPACITY], k: usize) -> Found
+    requires { ⌜ Ready cores table bounds k × (k < table .count) ⌝ }
+    ensures { λ r. ⌜ r ≡ foundOf (boundOf cores (above table bounds k) (rowAt (rowsOf table) k)) ⌝ }
+{
+    let row = table.rows[k];
+    let own = row.c;
+    let top = row.d.0;
+    let mut x = own.0;
+    while x <= top {
+        let window = Ticks(x);
+        let taken = taken_above(cores, table, bounds, k, own, window);
+        let next = own.0 + taken.most / (cores as u64);
+        if next <= x {
+            return Found::At(window);
+        }
+        let far = x + taken.stride + 1;
+        x = larger(next, far);
+    }
+    Found::Nothing
+}
+
+// The bounds of a sound table's rows from the top, up to the first row that has none, which is then named.
+fn bounds_of(cores: u32, table: Table) -> Analysis
+    requires { ⌜ SoundList cores (rowsOf table) ⌝ }
+    ensures { λ r. ⌜ r ≡ analysisOf (verdict (table .count) (boundsBelow cores [] (rowsOf table))) ⌝ }
+{
+    let none = Ticks(0);
+    let mut bounds = [none; Table::ROW_CAPACITY];
+    let mut i: usize = 0;
+    while i < table.count {
+        let found = bound_of(cores, table, bounds, i);
+        match found {
+            Found::At(x) => {
+                bounds[i] = x;
+            }
+            Found::Nothing => {
+                return Analysis {
+                    answer: Answer::NotShown(i + 1),
+                    bounds: bounds,
+                };
+            }
+        }
+        i += 1;
+    }
+    Analysis {
+        answer: Answer::Shown,
+        bounds: bounds,
+    }
+}
+
+// The answer to a table's rows on a board with this many cores: its fault, or its bounds from the top.
+pub fn analyse(cores: u32, table: Table) -> Analysis
+    ensures { λ r. ⌜ r ≡ analysisOf (judged cores (rowsOf table)) ⌝ }
+{
+    let found = table.check(cores);
+    match found {
+        Checked::Faulty(fault) => {
+            let none = Ticks(0);
+            let bounds = [none; Table::ROW_CAPACITY];
+            Analysis {
+                answer: Answer::Refused(fault),
+                bounds: bounds,
+            }
+        }
+        Checked::Sound => bounds_of(cores, table),
+    }
 }

@@ -14,3 +14,4 @@ pub mod Balance
 pub mod Prefix
 pub mod Below
 pub mod Responses
+pub mod TickRule

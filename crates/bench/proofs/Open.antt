@@ -1,14 +1,16 @@
 -- Laws of an opening: refused with the fault that checks 1 to 6 find, else the empty bench.
 use Prim.Native.Nat.{ℕ}
 use mathlib.Core.Path.{_≡_, refl}
+use mathlib.Core.Bool.{true}
 use mathlib.Core.Option.{Option, none, some}
-use Rattle.quantities.specs.Table.{rowsOf}
-use Rattle.quantities.specs.Checks.{listFault, checkedOf}
+use Rattle.quantities.specs.Table.{rowsOf, emptyTable}
+use Rattle.quantities.specs.Checks.{listFault, listChecks, firstFailing, faultFrom, checkedOf}
 use Rattle.quantities.specs.declared.Table.{Table}
 use Rattle.quantities.specs.declared.Fault.{Fault}
 use Rattle.quantities.specs.declared.Checked.the-variants.{Sound, Faulty}
 use Rattle.quantities.proofs.Checks.{checked-sound, checked-faulty}
 use Rattle.bench.specs.declared.Bench.{Bench}
+use Rattle.bench.specs.Record.{isFault, broken}
 use Rattle.bench.specs.Step.{emptyBench, noBench, openedAfter, opened, benchOr, openingOf}
 
 -- where the checks find a fault, there is no bench
@@ -22,3 +24,8 @@ pub opening-sound : (cores : ℕ) (table : Table) → checkedOf (listFault cores
     → openingOf cores table ≡ record { found = Sound; bench = emptyBench cores table }
 unfolding openingOf opened openedAfter checkedOf benchOr
 opening-sound cores table e = rw (checked-sound (listFault cores (rowsOf table)) e)
+
+-- what stands in the place of a bench is broken, so that each call on it gives 29
+pub no-bench-broken : broken noBench ≡ true
+unfolding broken noBench emptyBench emptyTable rowsOf isFault listFault listChecks firstFailing faultFrom
+no-bench-broken = refl

@@ -2,12 +2,14 @@
 use Prim.Native.Nat.{ℕ}
 use mathlib.Core.Path.{_≡_, refl}
 use mathlib.Core.List.{[]}
-use mathlib.Core.Option.{none, some}
+use mathlib.Core.Option.{Option, none, some}
+use native.Mathlib.Omega.{arith}
 use Rattle.bench.specs.declared.Bench.{Bench}
 use Rattle.bench.specs.declared.Refusal.{Refusal}
 use Rattle.bench.specs.declared.Outcome.the-variants.{Taken, Refused}
 use Rattle.bench.specs.Refusal.{firstRefusal, releaseTests, tickTests}
 use Rattle.bench.specs.Step.{Step, unless, started, release, taken, tick}
+use Rattle.bench.specs.History.{Call, releases, ticks, doCall}
 
 abbrev pub refusedStep : Refusal → Bench → Step
 refusedStep why b = record { outcome = Refused why; finishes = []; bench = b }
@@ -30,3 +32,22 @@ module _ (b : Bench) where
   pub tick-refused : (why : Refusal) → firstRefusal (tickTests b) ≡ some why → tick b ≡ refusedStep why b
   unfolding tick unless
   tick-refused why e = rw (e, unless)
+
+-- A refused call changes nothing on the bench.
+pub refused-same : (b : Bench) (call : Call) (why : Refusal) → doCall b call .outcome ≡ Refused why → doCall b call ≡ refusedStep why b
+unfolding taken
+refused-same b (releases place demand) why = go (firstRefusal (releaseTests b place demand)) refl
+  where
+    go : (found : Option Refusal) → firstRefusal (releaseTests b place demand) ≡ found → release b place demand .outcome ≡ Refused why
+        → release b place demand ≡ refusedStep why b
+    go none q e = let z : _≡_ {A = ℕ} 0 1 = cc (release-taken b place demand q) in absurd (omega arith)
+    go (some other) q e =
+        let same : other ≡ why = cc (release-refused b place demand other q) in
+        rw same at (release-refused b place demand other q)
+refused-same b ticks why = go (firstRefusal (tickTests b)) refl
+  where
+    go : (found : Option Refusal) → firstRefusal (tickTests b) ≡ found → tick b .outcome ≡ Refused why → tick b ≡ refusedStep why b
+    go none q e = let z : _≡_ {A = ℕ} 0 1 = cc (tick-taken b q) in absurd (omega arith)
+    go (some other) q e =
+        let same : other ≡ why = cc (tick-refused b other q) in
+        rw same at (tick-refused b other q)

@@ -5,3 +5,4 @@ pub mod Serving
 pub mod Ended
 pub mod Step
 pub mod History
+pub mod Starred

@@ -1,8 +1,9 @@
 -- Laws of lists that the kit's library does not have.
-use Prim.Native.Nat.{ℕ, zero, suc}
-use mathlib.Core.Path.{_≡_, refl}
-use mathlib.Core.List.{List, [], _∷_, _++_}
-use lib.ListN.{getD, replicate}
+use Prim.Native.Nat.{ℕ, zero, suc, _<_}
+use mathlib.Core.Path.{_≡_, refl, ap}
+use mathlib.Core.List.{List, [], _∷_, _++_, map}
+use native.Mathlib.Omega.{arith}
+use lib.ListN.{length, getD, take, set, replicate}
 use Rattle.laws.specs.Each.{Each}
 
 module _ {A : Type 0} where
@@ -22,3 +23,21 @@ module _ {A : Type 0} where
   pub each-map : {P Q : A → Type 0} → ((x : A) → P x → Q x) → (xs : List A) → Each P xs → Each Q xs
   each-map f [] each = tt
   each-map f (x ∷ xs) each = (f x (each .0), each-map f xs (each .1))
+
+  -- what holds of each element holds of the one at an index
+  pub each-at : (P : A → Type 0) (xs : List A) (i : ℕ) (d : A) → i < length xs → Each P xs → P (getD xs i d)
+  each-at P [] i d h each = absurd (omega arith)
+  each-at P (x ∷ xs) zero d h each = each .0
+  each-at P (x ∷ xs) (suc i) d h each = each-at P xs i d (omega arith) (each .1)
+
+module _ {A B : Type 0} (f : A → B) where
+  -- a map of the first elements, and of a list with one element changed
+  pub map-take : (n : ℕ) (xs : List A) → map f (take n xs) ≡ take n (map f xs)
+  map-take zero xs = refl
+  map-take (suc n) [] = refl
+  map-take (suc n) (x ∷ xs) = ap (λ (ys : List B). f x ∷ ys) (map-take n xs)
+
+  pub map-set : (xs : List A) (i : ℕ) (a : A) → map f (set xs i a) ≡ set (map f xs) i (f a)
+  map-set [] i a = refl
+  map-set (x ∷ xs) zero a = refl
+  map-set (x ∷ xs) (suc i) a = ap (λ (ys : List B). f x ∷ ys) (map-set xs i a)

@@ -1,13 +1,15 @@
 -- Laws of a table's rows as a list.
 use Prim.Native.Nat.{ℕ, suc, _<_}
 use native.Mathlib.Omega.{arith}
-use mathlib.Core.Path.{_≡_}
+use mathlib.Core.Path.{_≡_, subst}
 use mathlib.Core.List.{List, [], _∷_}
 use lib.ListN.{length, getD, drop, length-take, length-append, length-replicate, drop-of-length-le}
 use lib.Seq.{drop-cons, getD-take}
-use Rattle.laws.proofs.Lists.{getD-padded}
+use Rattle.laws.specs.Each.{Each}
+use Rattle.laws.proofs.Lists.{getD-padded, each-at}
 use Rattle.quantities.specs.Row.{noRow}
 use Rattle.quantities.specs.Table.{rowsOf}
+use Rattle.quantities.specs.declared.Row.{Row}
 use Rattle.quantities.specs.declared.Table.{Table}
 
 -- a table has as many rows as it counts
@@ -30,3 +32,9 @@ rows-from table i h =
 -- no row stands past the last
 pub rows-end : (table : Table) → drop (table .count) (rowsOf table) ≡ []
 rows-end table = drop-of-length-le (rowsOf table) {i = table .count} (omega (arith, length-rows table))
+
+-- what holds of each row of the list holds of each entry of the table down to its count
+pub each-row : (P : Row → Type 0) (table : Table) (i : ℕ) → i < table .count → Each P (rowsOf table)
+    → P (getD (table .rows) i noRow)
+each-row P table i h each =
+    subst P (row-at table i h) (each-at P (rowsOf table) i noRow (omega (arith, length-rows table)) each)

@@ -10,9 +10,10 @@ use Rattle.windows.specs.Choice.{Bounded, InRange, carriers}
 use Rattle.bench.specs.declared.RowState.{RowState}
 use Rattle.bench.specs.Record.{work}
 use Rattle.bench.specs.Serving.{unit, less}
-use Rattle.running.proofs.State.{came, unit-facts, spare, servedUp}
+use Rattle.bench.proofs.Units.{total as sum, unit-facts}
+use Rattle.running.proofs.State.{came, spare, servedUp}
 use Rattle.running.proofs.Invariant.{Keeps, Phase, quiet, carried, Above, no-rows, more}
-use Rattle.running.proofs.Invariant.{Facts, no-facts, fact, sum}
+use Rattle.running.proofs.Invariant.{Facts, no-facts, fact}
 use Rattle.running.proofs.Phase.{phase-tick}
 
 -- The rows above after a tick that counts as full: their work in full ticks grows by the units that they got.

@@ -16,7 +16,8 @@ use Rattle.running.specs.Below.{RowsBelow}
 -- a bench is opened only for a sound list
 pub opened-sound : (cores : ℕ) (table : Table) (start : Bench) → opened cores table ≡ some start
     → SoundList cores (rowsOf table)
-opened-sound cores table start is = sound-list-means cores (rowsOf table) .0 (opened-empty cores table start is .0)
+opened-sound cores table start is =
+    sound-list-means cores (rowsOf table) .0 (opened-empty cores table start is .0)
 
 pub rows-below : RowsBelow
 rows-below k cores table table′ start start′ same =

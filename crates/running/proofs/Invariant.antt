@@ -8,6 +8,7 @@ use Rattle.quantities.specs.Row.{cost, gap}
 use Rattle.windows.specs.Choice.{Bounded, bounded, InRange, Passes, carriers}
 use Rattle.bench.specs.declared.RowState.{RowState}
 use Rattle.bench.specs.Record.{work}
+use Rattle.bench.proofs.Units.{total as sum}
 use Rattle.running.proofs.State.{ever, came}
 
 -- A row's state: no more work than one poll has, no release after now, and work only of a poll that came.
@@ -54,10 +55,6 @@ pub data Facts (now : ℕ) : List Bounded → List RowState → Type 0 where
 pub data Mine (start : ℕ) (b : Bounded) (st : RowState) (own : ℕ) : Type 0 where
   resting : work st ≡ 0 → own ≡ 0 → Mine start b st own
   working : 0 < work st → start ≤ came st → own + work st ≤ cost (b .row) → Mine start b st own
-
-abbrev pub sum : List ℕ → ℕ
-sum [] = 0
-sum (v ∷ vs) = v + sum vs
 
 -- The window of a row. Each tick since its start was full, with M rows above served, or served the row.
 pub record Window (M now : ℕ) (b : Bounded) (st : RowState) (above : List Bounded) (up : List RowState)

@@ -18,7 +18,8 @@ use Rattle.bench.specs.declared.RowState.{RowState}
 use Rattle.bench.specs.declared.Finish.{Finish}
 use Rattle.bench.specs.Record.{work, idle}
 use Rattle.bench.specs.Serving.{unit, units, ends, since, finishOf, finished}
-use Rattle.running.proofs.State.{instantOf, ever, came, unit-facts}
+use Rattle.bench.proofs.Units.{unit-facts}
+use Rattle.running.proofs.State.{instantOf, ever, came}
 use Rattle.running.proofs.Invariant.{Inv, done, next}
 use Rattle.running.proofs.Tick.{in-time}
 

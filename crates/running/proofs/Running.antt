@@ -24,7 +24,8 @@ use Rattle.bench.specs.Serving.{units, finished}
 use Rattle.bench.specs.Step.{unless, started, release, served, taken, tick, emptyBench}
 use Rattle.bench.specs.History.{Call, releases, ticks, doCall, after}
 use Rattle.bench.proofs.Kept.{opened-empty}
-use Rattle.running.specs.Running.{boundsOf, boundAt, LessAgo, OverInTime, EndsInTime, NotUnfinished, Holds, BoundsHold}
+use Rattle.running.specs.Running.{boundsOf, boundAt, LessAgo, OverInTime, EndsInTime}
+use Rattle.running.specs.Running.{NotUnfinished, Holds, BoundsHold}
 use Rattle.running.proofs.State.{isAt, instantOf}
 use Rattle.running.proofs.Invariant.{no-rows}
 use Rattle.running.proofs.Reading.{RowFacts, inv-at, ended-in-time}

@@ -15,7 +15,8 @@ use Rattle.windows.specs.Bound.{IsBound}
 use Rattle.windows.proofs.Judgement.{Walk, over, stop, on, walk, judged-sound}
 use Rattle.bench.specs.declared.RowState.{RowState}
 use Rattle.bench.specs.Record.{idle}
-use Rattle.running.proofs.Invariant.{Keeps, quiet, Above, more, resting, sum}
+use Rattle.bench.proofs.Units.{total as sum}
+use Rattle.running.proofs.Invariant.{Keeps, quiet, Above, more, resting}
 use Rattle.running.proofs.Invariant.{Window, Shown, Inv, done, next}
 
 -- Rows above of which none has done anything.

@@ -1,6 +1,5 @@
 -- A row's state as the proof reads it, and the rows above a row in a tick, the nearest first.
-use Prim.Native.Nat.{ℕ, _-_, min}
-use mathlib.Core.Path.{_≡_, refl}
+use Prim.Native.Nat.{ℕ, _-_}
 use mathlib.Core.Bool.{Bool, true, false}
 use mathlib.Core.List.{List, [], _∷_}
 use Rattle.bench.specs.declared.Last.{Last}
@@ -24,14 +23,6 @@ ever st = isAt (st .last)
 
 abbrev pub came : RowState → ℕ
 came st = instantOf (st .last)
-
--- what a row gets of the free cores: one unit if it has work and a core is free
-pub record UnitFacts (free left u : ℕ) : Type 0 where
-  pub is : u ≡ min left (min 1 free)
-
-pub unit-facts : (free left : ℕ) → UnitFacts free left (unit free left)
-unfolding unit
-unit-facts free left = record { is = refl }
 
 -- the cores that rows leave free in a tick, the nearest first
 abbrev pub spare : (M : ℕ) → List RowState → ℕ

@@ -1,4 +1,4 @@
--- A tick keeps the invariant: a full one, or one that serves the row, lengthens its window; others begin it anew.
+-- A tick keeps the invariant: a full tick, or one that serves the row, lengthens its window; others begin it.
 use Prim.Native.Nat.{ℕ, zero, suc, _+_, _-_, _*_, _<_}
 use mathlib.Core.Path.{_≡_, refl}
 use mathlib.Core.List.{List}
@@ -10,8 +10,10 @@ use Rattle.windows.specs.Choice.{Bounded, InRange}
 use Rattle.bench.specs.declared.RowState.{RowState}
 use Rattle.bench.specs.Record.{work}
 use Rattle.bench.specs.Serving.{unit, units, less, worked}
-use Rattle.running.proofs.State.{came, unit-facts, spare, servedBelow, servedUp}
-use Rattle.running.proofs.Invariant.{Keeps, Facts, fact, Mine, resting, working, Window, Shown, Inv, done, next, sum}
+use Rattle.bench.proofs.Units.{total as sum, unit-facts}
+use Rattle.running.proofs.State.{came, spare, servedBelow, servedUp}
+use Rattle.running.proofs.Invariant.{Keeps, Facts, fact, Mine, resting, working}
+use Rattle.running.proofs.Invariant.{Window, Shown, Inv, done, next}
 use Rattle.running.proofs.Above.{above-full, above-slack, anew, ranges}
 use Rattle.running.proofs.Count.{short}
 

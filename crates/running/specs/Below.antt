@@ -19,14 +19,14 @@ pub record SameRows (k cores : ℕ) (table table′ : Table) (start start′ : B
   pub tall-second : k ≤ length (rowsOf table′)
   pub rows : take k (rowsOf table) ≡ take k (rowsOf table′)
 
--- Two histories are the same for the rows down to place k: the instant, their states, and each answer to a tick or
--- to a release of theirs.
+-- Two histories are the same for the rows down to place k: the instant, their states, and each answer to a
+-- tick or to a release of theirs.
 pub record SameRun (k : ℕ) (start start′ : Bench) (calls calls′ : List Call) : Type 0 where
   pub instant : after start calls .now .0 ≡ after start′ calls′ .now .0
   pub states : take k (after start calls .states) ≡ take k (after start′ calls′ .states)
   pub answers : heard k start calls ≡ heard k start′ calls′
 
--- Down to place k the bounds are the same, and so are histories with the same ticks and the same releases there.
+-- Down to place k the bounds are the same, and so are histories with the same ticks and releases there.
 abbrev pub RowsBelow : Type 0
 RowsBelow =
     (k cores : ℕ) (table table′ : Table) (start start′ : Bench) → SameRows k cores table table′ start start′

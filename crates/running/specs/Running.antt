@@ -32,7 +32,7 @@ abbrev pub LessAgo : (now bound : ℕ) → Last → Type 0
 LessAgo now bound Never = ⊥
 LessAgo now bound (At at) = now < at .0 + bound
 
--- The row at a place has work left only less than `bound` ticks after its release: then its poll is over.
+-- The row at a place has work left only less than `bound` ticks after its release. From then on its poll is over.
 abbrev pub OverInTime : (place bound : ℕ) → Bench → Type 0
 OverInTime place bound b = 0 < work (stateAt b place) → LessAgo (b .now .0) bound (stateAt b place .last)
 

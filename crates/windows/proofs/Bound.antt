@@ -1,15 +1,15 @@
 -- What `window` means: the least window that passes in document 01's words, or none where no window passes.
 use Prim.Native.Nat.{ℕ, _≤_}
-use mathlib.Core.Path.{_≡_}
+use mathlib.Core.Path.{_≡_, refl}
 use mathlib.Core.Logic.{_↔_, Iff·trans, Iff·symm}
-use mathlib.Core.List.{List}
+use mathlib.Core.List.{List, [], _∷_}
 use mathlib.Core.Option.{Option, none, some}
 use native.Mathlib.Omega.{arith}
 use Rattle.quantities.specs.declared.Row.{Row}
 use Rattle.quantities.specs.Row.{cost, deadline, gap}
 use Rattle.windows.specs.Choice.{Bounded, bounded, InRange, Passes, passes}
 use Rattle.windows.specs.Least.{IsLeast, NoneIn}
-use Rattle.windows.specs.Bound.{window, boundOf}
+use Rattle.windows.specs.Bound.{window, boundOf, boundsBelow}
 use Rattle.windows.proofs.Choice.{passes-means}
 use Rattle.windows.proofs.Least.{Outcome, outcome-some, outcome-none, outcome-agrees, least-is}
 
@@ -38,3 +38,18 @@ pub bound-in-range : (M r : ℕ) (above : List Bounded) (row : Row) → 1 ≤ co
 bound-in-range M r above row works short is-bound =
     let is-least = window-some M (cost row) (deadline row) above r .0 is-bound in
     record { works = works; low = is-least .low; high = omega arith }
+
+-- one row of the walk: it has a bound and the rows below go on, or it has none and the bounds end
+pub bounds-on : (M b : ℕ) (above : List Bounded) (row : Row) (rows : List Row) → boundOf M above row ≡ some b
+    → boundsBelow M above (row ∷ rows) ≡ b ∷ boundsBelow M (bounded row b ∷ above) rows
+unfolding boundsBelow
+bounds-on M b above row rows is-bound = rw (is-bound, boundsBelow) refl
+
+pub bounds-stop : (M : ℕ) (above : List Bounded) (row : Row) (rows : List Row) → boundOf M above row ≡ none
+    → boundsBelow M above (row ∷ rows) ≡ []
+unfolding boundsBelow
+bounds-stop M above row rows no-bound = rw (no-bound, boundsBelow) refl
+
+pub bounds-end : (M : ℕ) (above : List Bounded) → boundsBelow M above [] ≡ []
+unfolding boundsBelow
+bounds-end M above = refl

@@ -26,7 +26,7 @@ unfolding interference limit
 interference-grows own x δ work work′ top space low fits grown = omega arith
 
 -- without carry-in a row has worked no more than its polls so far, with the present one
-plain-le-polls : (c t x : ℕ) → plain c t x ≤ x / t * c + c
+pub plain-le-polls : (c t x : ℕ) → plain c t x ≤ x / t * c + c
 unfolding plain
 plain-le-polls c t x = omega arith
 

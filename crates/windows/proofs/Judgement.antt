@@ -10,10 +10,11 @@ use lib.Dec.{eqb}
 use lib.ListN.{length, getD}
 use borrow.Author.Tests.{eq-eqb, ne-eqb}
 use Rattle.quantities.specs.Row.{cost, deadline}
-use Rattle.quantities.specs.Checks.{SoundList}
+use Rattle.quantities.specs.Checks.{SoundList, listFault}
 use Rattle.quantities.specs.declared.Row.{Row}
+use Rattle.quantities.specs.declared.Fault.{Fault}
 use Rattle.quantities.proofs.Sound.{sound-list-means}
-use Rattle.windows.specs.declared.Answer.the-variants.{Shown, NotShown}
+use Rattle.windows.specs.declared.Answer.the-variants.{Shown, NotShown, Refused}
 use Rattle.windows.specs.Choice.{Bounded, bounded}
 use Rattle.windows.specs.Bound.{boundOf, IsBound, NoBound, boundsBelow}
 use Rattle.windows.specs.Answer.{Judged, verdict, judgedAfter, judged}
@@ -128,6 +129,17 @@ walk-from M above (row ∷ rows) (b ∷ bounds) least ends =
     lower (all e) = all (omega arith)
     lower (short l n) = short (omega arith) (none-lower M above row rows b bounds (length bounds) n)
 
+-- the verdict on bounds for every row, and on fewer
+pub verdict-all : (count : ℕ) (bounds : List ℕ) → length bounds ≡ count
+    → verdict count bounds ≡ record { answer = Shown; bounds = bounds }
+unfolding verdict
+verdict-all count bounds e = rw (eq-eqb (length bounds) count e, verdict) refl
+
+pub verdict-short : (count : ℕ) (bounds : List ℕ) → (length bounds ≡ count → ⊥)
+    → verdict count bounds ≡ record { answer = NotShown (suc (length bounds)); bounds = bounds }
+unfolding verdict
+verdict-short count bounds e = rw (ne-eqb (length bounds) count e, verdict) refl
+
 -- the bounds of a walk with their verdict are a judgement
 verdict-means : (M : ℕ) (rows : List Row) (bounds : List ℕ) → Walk M [] rows bounds
     → Judgement M rows (verdict (length rows) bounds)
@@ -148,6 +160,12 @@ verdict-means M rows bounds w =
           stands = l;
           none = subst (λ (up : List Bounded). NoBound M up (rowAt rows (length bounds))) (above-on rows bounds (length bounds)) n;
         })
+
+-- the answer to a faulty list is its fault, with no bounds
+pub judged-faulty : (M : ℕ) (rows : List Row) (fault : Fault) → listFault M rows ≡ some fault
+    → judged M rows ≡ record { answer = Refused fault; bounds = [] }
+unfolding judged judgedAfter
+judged-faulty M rows fault e = rw e
 
 -- the answer to a sound list is the verdict on its bounds
 pub judged-sound : (M : ℕ) (rows : List Row) → SoundList M rows

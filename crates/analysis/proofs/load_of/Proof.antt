@@ -1,7 +1,18 @@
--- load_of answers the load of one row above: its interference without and with carry-in.
+-- load_of answers the load of one row above: its interference without and with carry-in, and its room.
+use Prim.Native.Nat.{ℕ, _+_, _*_, _/_, _≤_}
+use native.Mathlib.Nat.{le-trans}
+use Rattle.quantities.specs.Row.{cost, gap}
+use Rattle.windows.specs.Window.{plain, carry}
+use Rattle.windows.specs.Choice.{Bounded, bounded, load}
+use Rattle.windows.specs.Jump.{room}
+use Rattle.windows.proofs.Window.{interference-le-work}
+use Rattle.windows.proofs.Far.{plain-le-polls}
 use borrow.Author.Needs.{needs}
 use Rattle.analysis.proofs.load_of.Statement.{statement}
 use Rattle.analysis.proofs.load_of.Tie as tie
+
+polls-in-requires : tie.Need-polls-in-requires
+polls-in-requires c κs = search needs
 
 plain-work-requires : tie.Need-plain-work-requires
 plain-work-requires c κs = search needs
@@ -15,18 +26,53 @@ interference-requires c κs = search needs
 interference-requires-2 : tie.Need-interference-requires-2
 interference-requires-2 c κs = search needs
 
+-- what a row takes is at most its work, and without carry-in at most its polls
+without-le-polls : (own x : ℕ) (b : Bounded) → load own x b .without ≤ x / gap (b .row) * cost (b .row) + cost (b .row)
+without-le-polls own x b =
+    le-trans (interference-le-work own x (plain (cost (b .row)) (gap (b .row)) x))
+    (plain-le-polls (cost (b .row)) (gap (b .row)) x)
+
+carrying-le-carry : (own x : ℕ) (b : Bounded) → load own x b .carrying ≤ carry (cost (b .row)) (gap (b .row)) (b .bound) x
+carrying-le-carry own x b = interference-le-work own x (carry (cost (b .row)) (gap (b .row)) (b .bound) x)
+
+sub-unfinished : tie.Need-sub-unfinished
+sub-unfinished c =
+    let a = c .before .before .before .before .before .before .args in
+    rw (c .before .before .interference .ensures, c .before .before .before .before .plain-work .ensures, c .before .before .before .before .before .polls-in .ensures)
+    (without-le-polls (a .own .0) (a .window .0) (bounded (a .row) (a .bound .0)))
+
+sub-cut : tie.Need-sub-cut
+sub-cut c =
+    let a = c .before .before .before .before .before .before .before .before .args in
+    rw (c .before .before .before .interference2 .ensures, c .before .before .before .before .before .carry-work .ensures)
+    (carrying-le-carry (a .own .0) (a .window .0) (bounded (a .row) (a .bound .0)))
+
+smaller-requires : tie.Need-smaller-requires
+smaller-requires c κs = search needs
+
 returns : tie.Need-returns
-returns c = (
-  simp (c .before .interference .ensures, c .before .before .before .plain-work .ensures),
-  simp (c .interference2 .ensures, c .before .before .carry-work .ensures),
-)
+unfolding room
+returns c =
+    let plain = c .before .before .before .before .before .before .before .plain-work .ensures in
+    let carry = c .before .before .before .before .before .before .carry-work .ensures in
+    let without = c .before .before .before .before .before .interference .ensures in
+    let carrying = c .before .before .before .before .interference2 .ensures in
+    record {
+      without = simp (without, plain);
+      carrying = simp (carrying, carry);
+      roominess = simp (c .smaller .ensures, without, plain, carrying, carry, c .before .before .before .before .before .before .before .before .polls-in .ensures);
+    }
 
 pub load-of-spec : {M : Type 1} → statement M
 load-of-spec =
     tie.close
     (tie.spec
+    polls-in-requires
     plain-work-requires
     carry-work-requires
     interference-requires
     interference-requires-2
+    sub-unfinished
+    sub-cut
+    smaller-requires
     returns)

@@ -10,9 +10,6 @@ use lib.Seq.{getD-set-same, getD-set-other}
 use Rattle.analysis.specs.Engine.{raisedAt}
 use Rattle.analysis.proofs.raised.Statement.{statement}
 use Rattle.analysis.proofs.raised.Tie as tie
-use Rattle.analysis.proofs.raised.Reads as reads
-use Rattle.analysis.proofs.raised.Lts as lts
-use Rattle.analysis.proofs.larger.Reads as larger-reads
 
 -- the entries above m are the raised ones, the others are as they were
 record In (carriers without carrying : ℕ) (old mosts : List ℕ) (m : ℕ) : Type 0 where

@@ -1,0 +1,101 @@
+-- bounds_of walks down the table; the bounds found so far are those of the rows above.
+use Prim.Native.Nat.{_-_}
+use native.Mathlib.Omega.{arith}
+use native.Mathlib.Numerals.{add-one}
+use mathlib.Core.Path.{sym, _∙_}
+use Rattle.laws.proofs.Lists.{each-at}
+use Rattle.quantities.specs.Row.{SoundRow, noRow}
+use Rattle.quantities.specs.Table.{rowsOf}
+use Rattle.quantities.proofs.Rows.{length-rows}
+use borrow.Author.Needs.{needs}
+use Rattle.analysis.proofs.SoFar.{SoFar, so-far-start, so-far-next, so-far-stop, so-far-all, found-some, found-none}
+use Rattle.analysis.proofs.bounds_of.Statement.{statement}
+use Rattle.analysis.proofs.bounds_of.Tie as tie
+
+abbrev Inv-loop : tie.InvT-loop
+Inv-loop cores table bounds₀ i₀ bounds i = SoFar cores table bounds i
+
+abbrev μ-loop : tie.MeasureT-loop
+μ-loop cores table bounds₀ i₀ bounds i = table .count - i
+
+loop-holds : tie.Need-loop-holds Inv-loop μ-loop
+loop-holds c =
+    so-far-start (c .args .cores) (c .args .table) (omega (arith, length-rows (c .args .table)))
+
+bound-of-requires : tie.Need-bound-of-requires Inv-loop μ-loop
+bound-of-requires c κs =
+    let s = c .before .before .before in
+    let so = c .before .before .loop .inv in (
+      record {
+        some-cores = s .pre .some-cores;
+        few-cores = s .pre .few-cores;
+        few-rows = so .few;
+        sound = s .pre .sound-rows;
+        within = so .within;
+        range = so .range;
+      },
+      omega arith,
+    )
+
+enum-known-found : tie.Need-enum-known-found Inv-loop μ-loop
+enum-known-found c = search needs
+
+mul-bounds : tie.Need-mul-bounds Inv-loop μ-loop
+mul-bounds c = search needs
+
+array-set-from-bounds : tie.Need-array-set-from-bounds Inv-loop μ-loop
+array-set-from-bounds c = search needs
+
+enum-told : tie.Need-enum-told Inv-loop μ-loop
+enum-told c = search needs
+
+add-t13 : tie.Need-add-t13 Inv-loop μ-loop
+add-t13 c = search needs
+
+returns : tie.Need-returns Inv-loop μ-loop
+returns c =
+    let s = c .before .before .before .before .before .before in
+    let at = c .before .before .before .before .before .loop in
+    let none = found-none _ (sym (c .before .before .bound-of .ensures) ∙ c .enum-told .given .1) in
+    rw (add-one (at .i)) (so-far-stop (s .args .cores) (s .args .table) (at .bounds) (at .i) (at .inv) (omega arith) none)
+
+add-i : tie.Need-add-i Inv-loop μ-loop
+add-i c = search needs
+
+loop-less : tie.Need-loop-less Inv-loop μ-loop
+loop-less c = search needs
+
+loop-again : tie.Need-loop-again Inv-loop μ-loop
+loop-again c =
+    let s = c .before .before .before .before .before .before .before in
+    let at = c .before .before .before .before .before .before .loop in
+    let rows = rowsOf (s .args .table) in
+    let sound = each-at SoundRow rows (at .i) noRow (omega (arith, length-rows (s .args .table))) (s .pre .sound-rows) in
+    let x = c .before .found .given .0 .0 in
+    let some = found-some _ x (sym (c .before .before .before .bound-of .ensures) ∙ c .before .found .given .1) in
+    rw (add-one (at .i)) (so-far-next (s .args .cores) (s .args .table) (at .bounds) (at .i) (at .inv) (omega arith) (x .0) sound some)
+
+returns-2 : tie.Need-returns-2 Inv-loop μ-loop
+returns-2 c =
+    let s = c .before .before .before in
+    let at = c .before .before .loop in
+    so-far-all (s .args .cores) (s .args .table) (at .bounds) (at .i) (at .inv) (omega arith)
+
+pub bounds-of-spec : {M : Type 1} → statement M
+bounds-of-spec =
+    tie.close
+    (tie.spec
+    Inv-loop
+    μ-loop
+    loop-holds
+    bound-of-requires
+    enum-known-found
+    mul-bounds
+    array-set-from-bounds
+    enum-told
+    add-t13
+    returns
+    add-i
+    loop-less
+    loop-again
+    returns-2)

@@ -1,0 +1,220 @@
+-- taken_above keeps, for each number of carriers, the most that the rows passed take, and counts those with room. The
+-- last row passed is the nearest, so it stands first in the list of the rows above.
+use Prim.Native.Nat.{ℕ, zero, suc, _+_, _-_, _*_, _≤_, _<_}
+use native.Mathlib.Omega.{arith}
+use native.Mathlib.Numerals.{add-one}
+use native.Mathlib.Nat.{le-trans, mul-le-mul}
+use mathlib.Core.Path.{_≡_, refl, sym, subst, ap, ap₂, _∙_}
+use mathlib.Core.List.{List, [], _∷_}
+use borrow.Author.Needs.{needs}
+use lib.ListN.{length, getD}
+use Rattle.laws.proofs.Lists.{getD-repeated}
+use Rattle.quantities.specs.Limits.{rowCapacity, largestGap}
+use Rattle.quantities.specs.Row.{cost, gap, noRow, SoundRow}
+use Rattle.quantities.specs.Table.{rowsOf}
+use Rattle.quantities.specs.declared.Table.{Table}
+use Rattle.quantities.specs.declared.Ticks.{Ticks}
+use Rattle.quantities.proofs.Rows.{each-row}
+use Rattle.windows.specs.Window.{plain, carry, limit}
+use Rattle.windows.specs.Choice.{Bounded, bounded, InRange, Load, load, loads, most}
+use Rattle.windows.specs.Jump.{room, rooms, roomy, leastRoom, stride}
+use Rattle.windows.specs.Judgement.{rowAt}
+use Rattle.windows.proofs.Window.{interference-le-limit}
+use Rattle.windows.proofs.Choice.{most-le-limit}
+use Rattle.windows.proofs.Room.{stride-in, stride-out}
+use Rattle.analysis.specs.Analysis.{ticks, numbers}
+use Rattle.analysis.specs.Engine.{above, raisedAt, countWith, leastWith, LoadIs, TakenIs}
+use Rattle.analysis.proofs.Above.{length-above, entry, entry-above, each-entry}
+use Rattle.analysis.proofs.Small.{most-small, load-small}
+use Rattle.analysis.proofs.Tally.{count-le, count-row, least-row}
+use Rattle.analysis.proofs.taken_above.Statement.{statement}
+use Rattle.analysis.proofs.taken_above.Tie as tie
+
+-- one row more: raising the mosts of the rows passed gives the mosts with that row
+raised-is-most : (ls : List Load) (l : Load) (mosts : List ℕ) (carriers : ℕ)
+    → ((m : ℕ) → m ≤ carriers → getD mosts m 0 ≡ most ls m)
+    → (m : ℕ) → m ≤ carriers → raisedAt mosts (l .without) (l .carrying) m ≡ most (l ∷ ls) m
+unfolding raisedAt most
+raised-is-most ls l mosts carriers is zero h = rw (is 0 h)
+raised-is-most ls l mosts carriers is (suc m) h = rw (is (suc m) h, is m (omega arith))
+
+record In (cores : ℕ) (table : Table) (bounds : List Ticks) (k own x : ℕ) (mosts : List ℕ) (count least i : ℕ) : Type 0 where
+  le : i ≤ k
+  few : count ≤ i
+  long : length mosts ≡ 16
+  mostly : (m : ℕ) → m ≤ cores - 1 → getD mosts m 0 ≡ most (loads own x (above table bounds i)) m
+  counted : count ≡ roomy 1 (rooms own x (above table bounds i))
+  smallest : least ≡ leastRoom largestGap (rooms own x (above table bounds i))
+
+-- One turn, at the row with index i, whose load the code took.
+module _ (cores : ℕ) (table : Table) (bounds : List Ticks) (k own x : ℕ) (mosts : List ℕ) (count least i : ℕ)
+    (within : k ≤ table .count) (h : i < k) (inv : In cores table bounds k own x mosts count least i)
+    (w c r : ℕ) (taken : LoadIs own x (entry table bounds i) w c r) where
+  -- it is the next of the rows above
+  next : LoadIs own x (bounded (rowAt (rowsOf table) i) (getD (numbers bounds) i 0)) w c r
+  next = subst (λ (b : Bounded). LoadIs own x b w c r) (entry-above table bounds i (omega arith)) taken
+
+  turn : (raised : List ℕ) (count′ least′ : ℕ) → length raised ≡ 16
+      → ((m : ℕ) → m ≤ cores - 1 → getD raised m 0 ≡ raisedAt mosts w c m)
+      → count′ ≡ countWith r count → least′ ≡ leastWith r least
+      → In cores table bounds k own x raised count′ least′ (i + 1)
+  turn raised count′ least′ long up p q =
+      let b = bounded (rowAt (rowsOf table) i) (getD (numbers bounds) i 0) in
+      let passed = above table bounds i in
+      rw (add-one i)
+      (record {
+        le = omega arith;
+        few = omega (arith, p, count-le r count);
+        long = long;
+        mostly = λ m low.
+            up m low ∙ rw (next .without, next .carrying) (raised-is-most (loads own x passed) (load own x b) mosts (cores - 1) (inv .mostly) m low);
+        counted = p ∙ ap₂ countWith (next .roominess) (inv .counted) ∙ sym (count-row (room own x b) (rooms own x passed));
+        smallest = q ∙ ap₂ leastWith (next .roominess) (inv .smallest) ∙ sym (least-row largestGap (room own x b) (rooms own x passed));
+      })
+
+-- After the last row.
+module _ (cores : ℕ) (table : Table) (bounds : List Ticks) (k own x : ℕ) (mosts : List ℕ) (count least i : ℕ)
+    (some-cores : 0 < cores) (over : i ≡ k) (inv : In cores table bounds k own x mosts count least i) where
+  few-roomy : count ≤ cores - 1 → TakenIs cores own x (above table bounds k) (getD mosts (cores - 1) 0) 0
+  few-roomy few =
+      let counted = rw over at (inv .counted) in
+      record {
+        mostly = rw over at (inv .mostly (cores - 1) (omega arith));
+        striding = sym (stride-out cores largestGap (rooms own x (above table bounds k)) (omega arith));
+      }
+
+  enough-roomy : cores - 1 < count → TakenIs cores own x (above table bounds k) (getD mosts (cores - 1) 0) least
+  enough-roomy enough =
+      let counted = rw over at (inv .counted) in
+      let smallest = rw over at (inv .smallest) in
+      record {
+        mostly = rw over at (inv .mostly (cores - 1) (omega arith));
+        striding = smallest ∙ sym (stride-in cores largestGap (rooms own x (above table bounds k)) (omega arith));
+      }
+
+abbrev Inv-loop : tie.InvT-loop
+Inv-loop cores k own window table bounds carriers mosts₀ rooms₀ i₀ mosts rooms i = In cores table bounds k (own .0) (window .0) mosts (rooms .count) (rooms .least) i
+
+abbrev μ-loop : tie.MeasureT-loop
+μ-loop cores k own window table bounds carriers mosts₀ rooms₀ i₀ mosts rooms i = k - i
+
+sub-carriers : tie.Need-sub-carriers Inv-loop μ-loop
+sub-carriers c = search needs
+
+cast-carriers : tie.Need-cast-carriers Inv-loop μ-loop
+cast-carriers c = search needs
+
+loop-holds : tie.Need-loop-holds Inv-loop μ-loop
+unfolding most roomy leastRoom
+loop-holds c =
+    record {
+      le = omega arith;
+      few = omega arith;
+      long = refl;
+      mostly = λ m h. getD-repeated 16 m 0;
+      counted = refl;
+      smallest = refl;
+    }
+
+mul-row : tie.Need-mul-row Inv-loop μ-loop
+mul-row c = search needs
+
+element-copy-out-row : tie.Need-element-copy-out-row Inv-loop μ-loop
+element-copy-out-row c = search needs
+
+mul-bound : tie.Need-mul-bound Inv-loop μ-loop
+mul-bound c = search needs
+
+array-copy-out-bound : tie.Need-array-copy-out-bound Inv-loop μ-loop
+array-copy-out-bound c = search needs
+
+load-of-requires : tie.Need-load-of-requires Inv-loop μ-loop
+load-of-requires c κs =
+    let s = c .before .before .before .before in
+    let i = c .before .before .before .loop .i in
+    let row : SoundRow (getD (s .args .t2 .rows) i noRow) = each-row SoundRow (s .args .t2) i (omega arith) (s .pre .0 .sound) in
+    record {
+      range = each-entry InRange (s .args .t2) (s .args .t3) (s .args .k) i (s .pre .0 .within) (omega arith) (s .pre .0 .range);
+      short-gap = row .short-gap;
+      short-window = s .pre .1;
+    }
+
+raised-requires : tie.Need-raised-requires Inv-loop μ-loop
+raised-requires c κs =
+    let s = c .before .before .before .before .before in
+    let i = c .before .before .before .before .loop .i in
+    let own = s .args .own .0 in
+    let x = s .args .window .0 in
+    let small = load-small own x (entry (s .args .t2) (s .args .t3) i) (s .pre .1) in
+    record {
+      few = omega arith;
+      small-without = rw (c .load-of .ensures .without) (small .0);
+      small-carrying = rw (c .load-of .ensures .carrying) (small .1);
+      small = λ m h.
+          rw (c .before .before .before .before .loop .inv .mostly m h)
+          (most-small (s .args .t2) (s .args .t3) i own x m (omega arith) (s .pre .1));
+    }
+
+with-room-requires : tie.Need-with-room-requires Inv-loop μ-loop
+with-room-requires c κs = search needs
+
+add-i : tie.Need-add-i Inv-loop μ-loop
+add-i c = search needs
+
+loop-less : tie.Need-loop-less Inv-loop μ-loop
+loop-less c = search needs
+
+loop-again : tie.Need-loop-again Inv-loop μ-loop
+loop-again c =
+    let s = c .before .before .before .before .before .before .before in
+    let at = c .before .before .before .before .before .before .loop in
+    let load = c .before .before .load-of in
+    turn (s .args .cores) (s .args .t2) (s .args .t3) (s .args .k) (s .args .own .0) (s .args .window .0) (at .mosts)
+    (at .rooms .count) (at .rooms .least) (at .i) (s .pre .0 .within) (omega arith) (at .inv)
+    (load .result .without) (load .result .carrying) (load .result .room) (load .ensures)
+    (c .before .raised .result) (c .with-room .result .count) (c .with-room .result .least) (search needs)
+    (c .before .raised .ensures) (c .with-room .ensures .0) (c .with-room .ensures .1)
+
+mul-most : tie.Need-mul-most Inv-loop μ-loop
+mul-most c = search needs
+
+array-read-most : tie.Need-array-read-most Inv-loop μ-loop
+array-read-most c = search needs
+
+returns : tie.Need-returns Inv-loop μ-loop
+returns c =
+    let s = c .before .before .before .before in
+    let at = c .before .before .before .loop in
+    few-roomy (s .args .cores) (s .args .t2) (s .args .t3) (s .args .k) (s .args .own .0) (s .args .window .0) (at .mosts)
+    (at .rooms .count) (at .rooms .least) (at .i) (s .pre .0 .some-cores) (omega arith) (at .inv) (omega arith)
+
+returns-2 : tie.Need-returns-2 Inv-loop μ-loop
+returns-2 c =
+    let s = c .before .before .before .before in
+    let at = c .before .before .before .loop in
+    enough-roomy (s .args .cores) (s .args .t2) (s .args .t3) (s .args .k) (s .args .own .0) (s .args .window .0) (at .mosts)
+    (at .rooms .count) (at .rooms .least) (at .i) (s .pre .0 .some-cores) (omega arith) (at .inv) (omega arith)
+
+pub taken-above-spec : {M : Type 1} → statement M
+taken-above-spec =
+    tie.close
+    (tie.spec
+    Inv-loop
+    μ-loop
+    sub-carriers
+    cast-carriers
+    loop-holds
+    mul-row
+    element-copy-out-row
+    mul-bound
+    array-copy-out-bound
+    load-of-requires
+    raised-requires
+    with-room-requires
+    add-i
+    loop-less
+    loop-again
+    mul-most
+    array-read-most
+    returns
+    returns-2)

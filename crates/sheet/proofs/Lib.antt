@@ -1,0 +1,6 @@
+-- Laws of the sheet's definitions.
+pub mod Bytes
+pub mod Records
+pub mod Entries
+pub mod Checks
+pub mod Reader

@@ -1,0 +1,96 @@
+-- The written-out sheets of document 01, and some that are turned away, each read by the definition.
+use Prim.Native.Nat.{ℕ}
+use mathlib.Core.Path.{_≡_, refl}
+use mathlib.Core.List.{List, [], _∷_, _++_}
+use lib.ListN.{replicate}
+use Rattle.quantities.specs.Row.{rowOf}
+use Rattle.quantities.specs.declared.Row.{Row}
+use Rattle.sheet.specs.Bytes.{numberAfter, field}
+use Rattle.sheet.specs.Records.{recordLength, rowFields, wholeRecord, recordOn, kindOf, isEnd}
+use Rattle.sheet.specs.Entries.{ticksOf, entryOf, noEntry, boardSheet, entriesOf, used, inserted, withEntry}
+use Rattle.sheet.specs.Checks.{misplaced, boardChecks, rowChecks, endChecks, recordChecks, verdictOf}
+use Rattle.sheet.specs.Reader.{noSheet, newReading, afterRecord, refused, whole, readFrom, readOf}
+use Rattle.quantities.specs.Checks.{firstFailing}
+use Rattle.sheet.specs.declared.Entry.{Entry}
+use Rattle.sheet.specs.declared.Outcome.{Outcome}
+
+-- the answer of a sheet, with all that it rests on opened so that it computes
+unfoldable answer : List ℕ → Outcome
+unfolding readOf readFrom newReading noSheet boardSheet recordOn recordLength kindOf isEnd wholeRecord rowFields field numberAfter recordChecks misplaced boardChecks rowChecks endChecks verdictOf firstFailing afterRecord withEntry inserted entriesOf entryOf ticksOf used whole refused
+answer sheet = readOf sheet
+
+abbrev entry : ℕ → ℕ → Row → Entry
+entry priority label row = record { priority = priority; label = label; row = row }
+
+-- the records of the sheet of document 01: 2 cores and a tick of 100 µs, the rows of priority 1, 10 and 2
+abbrev board : List ℕ
+board = 1 ∷ 2 ∷ 0 ∷ 100 ∷ []
+
+abbrev first : List ℕ
+first = 2 ∷ 0 ∷ 101 ∷ 0 ∷ 1 ∷ 0 ∷ 0 ∷ 0 ∷ 200 ∷ 0 ∷ 0 ∷ 1 ∷ 244 ∷ 0 ∷ 0 ∷ 1 ∷ 244 ∷ []
+
+abbrev tenth : List ℕ
+tenth = 2 ∷ 0 ∷ 110 ∷ 0 ∷ 10 ∷ 0 ∷ 0 ∷ 0 ∷ 200 ∷ 0 ∷ 0 ∷ 1 ∷ 144 ∷ 0 ∷ 0 ∷ 3 ∷ 232 ∷ []
+
+abbrev second : List ℕ
+second = 2 ∷ 0 ∷ 102 ∷ 0 ∷ 2 ∷ 0 ∷ 0 ∷ 1 ∷ 44 ∷ 0 ∷ 0 ∷ 3 ∷ 32 ∷ 0 ∷ 0 ∷ 3 ∷ 32 ∷ []
+
+-- the sheet of document 01: 2 comes before 10
+sheet-of-document : answer (board ++ first ++ tenth ++ second ++ (3 ∷ 3 ∷ [])) ≡
+    whole
+    (record {
+      cores = 2;
+      tick = record { 0 = 100 };
+      count = 3;
+      entries =
+          entry 1 101 (rowOf 2 5 5) ∷ entry 2 102 (rowOf 3 8 8) ∷ entry 10 110 (rowOf 2 4 10) ∷ replicate 29 noEntry;
+    })
+unfolding answer
+sheet-of-document = refl
+
+-- no byte; an end record first; a kind that no record has, whatever follows it
+empty-sheet : answer [] ≡ refused 11 0
+unfolding answer
+empty-sheet = refl
+
+end-first : answer (3 ∷ 0 ∷ []) ≡ refused 13 0
+unfolding answer
+end-first = refl
+
+kind-seven : (rest : List ℕ) → answer (7 ∷ rest) ≡ refused 12 0
+unfolding answer
+kind-seven rest = refl
+
+-- a row record that is cut short is misplaced before it is cut; a second board; a board that is cut short
+cut-row-first : answer (2 ∷ 0 ∷ []) ≡ refused 13 0
+unfolding answer
+cut-row-first = refl
+
+second-board : answer (board ++ first ++ board) ≡ refused 13 21
+unfolding answer
+second-board = refl
+
+cut-row : answer (board ++ first ++ (2 ∷ 0 ∷ [])) ≡ refused 11 21
+unfolding answer
+cut-row = refl
+
+no-end : answer (board ++ first) ≡ refused 11 21
+unfolding answer
+no-end = refl
+
+-- a priority twice; a tick of 0 µs; a wrong count; a byte after the end record
+priority-twice : answer (board ++ second ++ tenth ++ second ++ (3 ∷ 3 ∷ [])) ≡ refused 15 38
+unfolding answer
+priority-twice = refl
+
+no-tick : answer (1 ∷ 2 ∷ 0 ∷ 0 ∷ first) ≡ refused 19 0
+unfolding answer
+no-tick = refl
+
+wrong-count : answer (board ++ first ++ (3 ∷ 2 ∷ 3 ∷ [])) ≡ refused 17 21
+unfolding answer
+wrong-count = refl
+
+byte-after : answer (board ++ first ++ (3 ∷ 1 ∷ 3 ∷ [])) ≡ refused 18 23
+unfolding answer
+byte-after = refl

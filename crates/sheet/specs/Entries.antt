@@ -1,0 +1,73 @@
+-- The rows of a sheet as entries in rising priority, their times in ticks, and the table that they give.
+use Prim.Native.Nat.{ℕ, _+_, _/_}
+use mathlib.Core.Bool.{Bool, false, cond, _||_}
+use mathlib.Core.List.{List, [], _∷_, _++_}
+use lib.Dec.{eqb, ltb}
+use lib.ListN.{take, drop, replicate}
+use Rattle.quantities.specs.Limits.{rowCapacity}
+use Rattle.quantities.specs.Row.{noRow}
+use Rattle.quantities.specs.Table.{emptyTable, withRow}
+use Rattle.quantities.specs.declared.Micros.{Micros}
+use Rattle.quantities.specs.declared.Ticks.{Ticks}
+use Rattle.quantities.specs.declared.Table.{Table}
+use Rattle.sheet.specs.declared.RowFields.{RowFields}
+use Rattle.sheet.specs.declared.Entry.{Entry}
+use Rattle.sheet.specs.declared.Sheet.{Sheet}
+
+-- a time in ticks of a length: whole division, the remainder dropped
+unfoldable pub ticksOf : Micros → Micros → Ticks
+ticksOf tick time = record { 0 = time .0 / tick .0 }
+
+-- a row record's fields as an entry, its times in ticks
+unfoldable pub entryOf : Micros → RowFields → Entry
+entryOf tick fields =
+    record {
+      priority = fields .priority;
+      label = fields .label;
+      row = record { c = ticksOf tick (fields .c); d = ticksOf tick (fields .d); t = ticksOf tick (fields .t) };
+    }
+
+-- what stands at a place of a sheet that holds no row
+abbrev pub noEntry : Entry
+noEntry = record { priority = 0; label = 0; row = noRow }
+
+-- the sheet of a board with no row yet
+unfoldable pub boardSheet : ℕ → Micros → Sheet
+boardSheet cores tick =
+    record { cores = cores; tick = tick; count = 0; entries = replicate rowCapacity noEntry }
+
+-- the entries of a sheet, from the top
+unfoldable pub entriesOf : Sheet → List Entry
+entriesOf sheet = take (sheet .count) (sheet .entries)
+
+-- whether one of the entries has this priority
+unfoldable pub used : ℕ → List Entry → Bool
+used priority [] = false
+used priority (entry ∷ entries) = eqb (entry .priority) priority || used priority entries
+
+-- the entries with a new one at its place: where an entry has a larger number, the new one comes first and that entry goes on
+unfoldable pub inserted : Entry → List Entry → List Entry
+inserted new [] = new ∷ []
+inserted new (entry ∷ entries) =
+    cond (ltb (new .priority) (entry .priority)) (new ∷ inserted entry entries) (entry ∷ inserted new entries)
+
+-- the sheet with one row more, at its place by priority; a full sheet stays as it is
+unfoldable pub withEntry : Sheet → Entry → Sheet
+withEntry sheet new =
+    cond (ltb (sheet .count) rowCapacity)
+    (record {
+      cores = sheet .cores;
+      tick = sheet .tick;
+      count = sheet .count + 1;
+      entries = inserted new (entriesOf sheet) ++ drop (sheet .count + 1) (sheet .entries);
+    })
+    sheet
+
+-- a table with the rows of the entries below its own
+unfoldable pub tableWith : Table → List Entry → Table
+tableWith table [] = table
+tableWith table (entry ∷ entries) = tableWith (withRow table (entry .row)) entries
+
+-- the table of a sheet's rows, in the order of the entries
+unfoldable pub tableOf : Sheet → Table
+tableOf sheet = tableWith emptyTable (entriesOf sheet)

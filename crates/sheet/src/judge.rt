@@ -1,0 +1,106 @@
+//! The checks of a record, in the order of document 01.
+use crate::Reading;
+use crate::Record;
+use crate::Sheet;
+use crate::Verdict;
+use crate::parse::BOARD_KIND;
+use crate::parse::END_KIND;
+use crate::parse::ROW_KIND;
+use quantities::Micros;
+use quantities::Table;
+ghost use mathlib.Core.Path.{_≡_};
+ghost use Prim.Native.Nat.{_+_, _<_, _^_};
+ghost use Rattle.sheet.specs.Checks.{misplaced, boardChecks, rowChecks, endChecks, recordChecks, verdictOf};
+
+const TOP_PRIORITY: u32 = 999;
+
+// Whether a record of this kind stands where it must not: the first one that is no board, or a later board.
+fn is_misplaced(begun: bool, kind: u8) -> bool
+    ensures { λ r. ⌜ r ≡ misplaced begun kind ⌝ }
+{
+    if begun {
+        return kind == BOARD_KIND;
+    }
+    kind != BOARD_KIND
+}
+
+fn check_board(tick: Micros, at: usize) -> Verdict
+    ensures { λ r. ⌜ r ≡ verdictOf (boardChecks at tick) ⌝ }
+{
+    if tick.0 == 0 {
+        return Verdict::Refused(19, at);
+    }
+    Verdict::Sound
+}
+
+fn check_row(sheet: Sheet, priority: u32, at: usize) -> Verdict
+    ensures { λ r. ⌜ r ≡ verdictOf (rowChecks at sheet priority) ⌝ }
+{
+    if Table::ROW_CAPACITY <= sheet.count {
+        return Verdict::Refused(14, at);
+    }
+    if priority == 0 {
+        return Verdict::Refused(16, at);
+    }
+    if TOP_PRIORITY < priority {
+        return Verdict::Refused(16, at);
+    }
+    if sheet.is_used(priority) {
+        return Verdict::Refused(15, at);
+    }
+    Verdict::Sound
+}
+
+// `left` counts the bytes of the sheet from the end record's kind byte on.
+fn check_end(sheet: Sheet, count: usize, at: usize, left: usize) -> Verdict
+    requires { ⌜ at + left < 2 ^ 64 ⌝ }
+    ensures { λ r. ⌜ r ≡ verdictOf (endChecks at left sheet count) ⌝ }
+{
+    if count != sheet.count {
+        return Verdict::Refused(17, at);
+    }
+    if 2 < left {
+        return Verdict::Refused(18, at + 2);
+    }
+    Verdict::Sound
+}
+
+// The checks of the record found at a place, with so many bytes of the sheet from there on.
+pub fn check_record(reading: Reading, found: Record, at: usize, left: usize) -> Verdict
+    requires { ⌜ at + left < 2 ^ 64 ⌝ }
+    ensures { λ r. ⌜ r ≡ verdictOf (recordChecks at left reading found) ⌝ }
+{
+    let begun = reading.begun;
+    match found {
+        Record::Missing => {
+            return Verdict::Refused(11, at);
+        }
+        Record::Unknown => {
+            return Verdict::Refused(12, at);
+        }
+        Record::Cut(kind) => {
+            if is_misplaced(begun, kind) {
+                return Verdict::Refused(13, at);
+            }
+            return Verdict::Refused(11, at);
+        }
+        Record::Board(_, tick) => {
+            if is_misplaced(begun, BOARD_KIND) {
+                return Verdict::Refused(13, at);
+            }
+            return check_board(tick, at);
+        }
+        Record::Row(fields) => {
+            if is_misplaced(begun, ROW_KIND) {
+                return Verdict::Refused(13, at);
+            }
+            return check_row(reading.sheet, fields.priority, at);
+        }
+        Record::End(count) => {
+            if is_misplaced(begun, END_KIND) {
+                return Verdict::Refused(13, at);
+            }
+            return check_end(reading.sheet, count, at, left);
+        }
+    }
+}

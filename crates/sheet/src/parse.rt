@@ -1,0 +1,130 @@
+//! The record parser: the only place that knows a record's layout.
+use crate::Record;
+use crate::RowFields;
+use quantities::Micros;
+ghost use mathlib.Core.Path.{_≡_};
+ghost use Prim.Native.Nat.{_+_, _≤_, _<_};
+ghost use lib.ListN.{length};
+ghost use Rattle.sheet.specs.Bytes.{field};
+ghost use Rattle.sheet.specs.Records.{recordLength, rowFields, recordOn, sizeOf};
+
+pub const BOARD_KIND: u8 = 1;
+
+pub const ROW_KIND: u8 = 2;
+
+pub const END_KIND: u8 = 3;
+
+// The length of a record by its kind, kind byte included; 0 for a kind that no record has.
+fn record_length(kind: u8) -> usize
+    ensures { λ r. ⌜ r ≡ recordLength kind ⌝ }
+{
+    if kind == BOARD_KIND {
+        return 4;
+    }
+    if kind == ROW_KIND {
+        return 17;
+    }
+    if kind == END_KIND {
+        return 2;
+    }
+    0
+}
+
+fn wide(byte: u8) -> u32
+    ensures { λ r. ⌜ (r ≡ byte) × (r < 256) ⌝ }
+{
+    byte as u32
+}
+
+fn counted(byte: u8) -> usize
+    ensures { λ r. ⌜ r ≡ byte ⌝ }
+{
+    byte as usize
+}
+
+fn micros(number: u32) -> Micros
+    ensures { λ r. ⌜ r ≡ record { 0 = number } ⌝ }
+{
+    Micros(number as u64)
+}
+
+// The number in the two bytes from a place on.
+fn two_bytes(part: &[u8], at: usize) -> u32
+    requires { ⌜ at + 2 ≤ length (now part) ⌝ }
+    ensures { λ r. ⌜ (r ≡ field at 2 (now (part .entry))) × (r < 65536) ⌝ }
+{
+    let high = wide(part[at]);
+    let low = wide(part[at + 1]);
+    high * 256 + low
+}
+
+// The number in the four bytes from a place on.
+fn four_bytes(part: &[u8], at: usize) -> u32
+    requires { ⌜ at + 4 ≤ length (now part) ⌝ }
+    ensures { λ r. ⌜ r ≡ field at 4 (now (part .entry)) ⌝ }
+{
+    let high = two_bytes(part, at);
+    let low = two_bytes(part, at + 2);
+    high * 65536 + low
+}
+
+// The fields of a row record that is whole.
+fn row_fields(part: &[u8]) -> RowFields
+    requires { ⌜ 17 ≤ length (now part) ⌝ }
+    ensures { λ r. ⌜ r ≡ rowFields (now (part .entry)) ⌝ }
+{
+    let label = two_bytes(part, 1);
+    let priority = two_bytes(part, 3);
+    let c = micros(four_bytes(part, 5));
+    let d = micros(four_bytes(part, 9));
+    let t = micros(four_bytes(part, 13));
+    RowFields {
+        label: label,
+        priority: priority,
+        c: c,
+        d: d,
+        t: t,
+    }
+}
+
+// What stands on a part of a sheet that begins where a record should, at its kind byte.
+pub fn record_on(part: &[u8]) -> Record
+    ensures { λ r. ⌜ r ≡ recordOn (now (part .entry)) ⌝ }
+{
+    if part.len() == 0 {
+        return Record::Missing;
+    }
+    let kind = part[0];
+    let whole = record_length(kind);
+    if whole == 0 {
+        return Record::Unknown;
+    }
+    if part.len() < whole {
+        return Record::Cut(kind);
+    }
+    if kind == BOARD_KIND {
+        let cores = wide(part[1]);
+        let tick = micros(two_bytes(part, 2));
+        return Record::Board(cores, tick);
+    }
+    if kind == ROW_KIND {
+        let fields = row_fields(part);
+        return Record::Row(fields);
+    }
+    let count = counted(part[1]);
+    Record::End(count)
+}
+
+// How many bytes a record takes.
+pub fn size(found: Record) -> usize
+    ensures { λ r. ⌜ r ≡ sizeOf found ⌝ }
+{
+    match found {
+        Record::Missing => 0,
+        Record::Unknown => 0,
+        Record::Cut(kind) => record_length(kind),
+        Record::Board(_, _) => record_length(BOARD_KIND),
+        Record::Row(_) => record_length(ROW_KIND),
+        Record::End(_) => record_length(END_KIND),
+    }
+}
