@@ -19,6 +19,11 @@ module _ {A : Type 0} where
   getD-padded (x ∷ xs) n zero d = refl
   getD-padded (x ∷ xs) n (suc i) d = getD-padded xs n i d
 
+  -- what follows from a property of each element holds of each
+  pub each-map : {P Q : A → Type 0} → ((x : A) → P x → Q x) → (xs : List A) → Each P xs → Each Q xs
+  each-map f [] each = tt
+  each-map f (x ∷ xs) each = (f x (each .0), each-map f xs (each .1))
+
   -- what holds of each element holds of the one at an index
   pub each-at : (P : A → Type 0) (xs : List A) (i : ℕ) (d : A) → i < length xs → Each P xs → P (getD xs i d)
   each-at P [] i d h each = absurd (omega arith)

@@ -1,0 +1,165 @@
+-- Demand 3: what the invariant says of one bench and one call, and the theorem over every history.
+use Prim.Native.Nat.{ℕ, suc, _+_, _-_, _≤_, _<_}
+use mathlib.Core.Path.{_≡_, refl}
+use mathlib.Core.Bool.{true}
+use mathlib.Core.List.{List, []}
+use mathlib.Core.Option.{Option, none, some}
+use native.Mathlib.Omega.{arith}
+use lib.ListN.{length, take}
+use Rattle.laws.proofs.Lists.{each-map}
+use Rattle.quantities.specs.Limits.{rowCapacity}
+use Rattle.quantities.specs.declared.Row.{Row}
+use Rattle.quantities.specs.declared.Table.{Table}
+use Rattle.quantities.specs.Table.{rowsOf}
+use Rattle.quantities.specs.Checks.{SoundList}
+use Rattle.bench.specs.declared.Last.{Last}
+use Rattle.bench.specs.declared.Last.the-variants.{Never, At}
+use Rattle.bench.specs.declared.Bench.{Bench}
+use Rattle.bench.specs.declared.Refusal.{Refusal}
+use Rattle.bench.specs.declared.Refusal.the-variants.{Unfinished}
+use Rattle.bench.specs.declared.Outcome.the-variants.{Taken, Refused}
+use Rattle.bench.specs.Record.{rows, rowAt, stateAt}
+use Rattle.bench.specs.Refusal.{firstRefusal, releaseTests, tickTests, placeOf}
+use Rattle.bench.specs.Serving.{units, finished}
+use Rattle.bench.specs.Step.{unless, started, release, served, taken, tick, emptyBench}
+use Rattle.bench.specs.History.{Call, releases, ticks, doCall, after}
+use Rattle.bench.proofs.Kept.{opened-empty}
+use Rattle.running.specs.Running.{boundsOf, boundAt, LessAgo, OverInTime, EndsInTime}
+use Rattle.running.specs.Running.{NotUnfinished, Holds, BoundsHold}
+use Rattle.running.proofs.State.{isAt, instantOf}
+use Rattle.running.proofs.Invariant.{no-rows}
+use Rattle.running.proofs.Reading.{RowFacts, inv-at, ended-in-time}
+use Rattle.running.proofs.Tests.{UnfinishedAt, release-unfinished, tick-refusal}
+use Rattle.running.proofs.Start.{inv-start, judged-walk}
+use Rattle.running.proofs.Below.{opened-sound}
+use Rattle.running.proofs.Calls.{InRun, run-after, run-steps}
+
+-- a release that came less than the bound ago
+less-ago : (now bound : ℕ) (last : Last) → isAt last ≡ true → now < instantOf last + bound
+    → LessAgo now bound last
+less-ago now bound Never at h = let z : _≡_ {A = ℕ} 0 1 = cc in absurd (omega arith)
+less-ago now bound (At at) is h = h
+
+module _ {M : ℕ} {list : List Row} {bounds : List ℕ} (b : Bench) (run : InRun M list bounds b) where
+  -- what is known of the row at a place
+  at-place : (place : ℕ) → 1 ≤ place → place ≤ length bounds
+      → RowFacts (b .now .0) (rowAt b place) (boundAt bounds place) (stateAt b place)
+  at-place place first within = rw (run .rows-are) (inv-at (run .inv) (place - 1) (omega arith))
+
+  -- a row with work left is within its bound
+  bench-over : (place : ℕ) → 1 ≤ place → place ≤ length bounds → OverInTime place (boundAt bounds place) b
+  bench-over place first within busy =
+      let row = at-place place first within in
+      less-ago (b .now .0) (boundAt bounds place) (stateAt b place .last) (row .known busy) (row .early busy)
+
+  -- a release that keeps the gap finds the last poll over, since the gap is no less than the bound
+  none-unfinished : (place : ℕ) → 1 ≤ place → place ≤ length bounds → (why : Refusal)
+      → UnfinishedAt b place why → ⊥
+  none-unfinished place first within why unfinished =
+      let row = at-place place first within in
+      let range = row .range in
+      let gone = unfinished .kept (row .known (unfinished .left)) in
+      let early = row .early (unfinished .left) in
+      omega arith
+
+  pub release-not-unfinished : (place : ℕ) → 1 ≤ place → place ≤ length bounds → (other demand : ℕ)
+      → NotUnfinished place (release b other demand)
+  unfolding release unless placeOf
+  release-not-unfinished place first within other demand refuses =
+      go (firstRefusal (releaseTests b other demand)) refl (refuses .says)
+    where
+      go : (refusal : Option Refusal) → firstRefusal (releaseTests b other demand) ≡ refusal
+          → unless refusal
+          (record { outcome = Taken; finishes = []; bench = started b other demand }) b .outcome
+          ≡ Refused (refuses .why)
+          → ⊥
+      go none e says = let z : _≡_ {A = ℕ} 0 1 = cc in omega arith
+      go (some why) e says =
+          let is : why ≡ refuses .why = cc in
+          let found : firstRefusal (releaseTests b other demand) ≡ some (refuses .why) = rw is at e in
+          let unfinished = release-unfinished b other demand (refuses .why) found (refuses .number-is) in
+          let named : placeOf (Unfinished other) ≡ place = rw (unfinished .why-is) at (refuses .place-is) in
+          none-unfinished other (omega arith) (omega arith) (refuses .why) unfinished
+
+  tick-not-unfinished : (place : ℕ) → NotUnfinished place (tick b)
+  unfolding tick unless taken
+  tick-not-unfinished place refuses = go (firstRefusal (tickTests b)) refl (refuses .says)
+    where
+      go : (refusal : Option Refusal) → firstRefusal (tickTests b) ≡ refusal
+          → unless refusal (taken b) b .outcome ≡ Refused (refuses .why) → ⊥
+      go none e says = let z : _≡_ {A = ℕ} 0 1 = cc in omega arith
+      go (some why) e says =
+          let is : why ≡ refuses .why = cc in
+          tick-refusal b (refuses .why) (rw is at e) (refuses .number-is)
+
+  -- the polls that end in a tick
+  tick-ends : (place : ℕ) → 1 ≤ place → place ≤ length bounds
+      → EndsInTime place (boundAt bounds place) (tick b)
+  unfolding tick unless taken served
+  tick-ends place first within = go (firstRefusal (tickTests b))
+    where
+      go : (refusal : Option Refusal) → EndsInTime place (boundAt bounds place) (unless refusal (taken b) b)
+      go none =
+          rw (run .rows-are)
+          (each-map (λ poll ended is. ended .1 (place - 1) (omega arith) (omega arith))
+          (finished (suc (b .now .0)) 1 (units (b .cores) (take (length list) (b .states))) (b .states))
+          (ended-in-time (run .inv) 1 (b .cores)))
+      go (some why) = tt
+
+  -- and none ends in a release
+  release-ends : (place bound other demand : ℕ) → EndsInTime place bound (release b other demand)
+  unfolding release unless
+  release-ends place bound other demand = go (firstRefusal (releaseTests b other demand))
+    where
+      go : (refusal : Option Refusal)
+          → EndsInTime place bound
+          (unless refusal (record { outcome = Taken; finishes = []; bench = started b other demand }) b)
+      go none = tt
+      go (some why) = tt
+
+-- each step of a history
+module _ {M : ℕ} {list : List Row} {bounds : List ℕ} (place : ℕ)
+    (first : 1 ≤ place) (within : place ≤ length bounds) where
+  call-ends : (b : Bench) (call : Call) → InRun M list bounds b
+      → EndsInTime place (boundAt bounds place) (doCall b call)
+  call-ends b (releases other demand) run = release-ends b run place (boundAt bounds place) other demand
+  call-ends b ticks run = tick-ends b run place first within
+
+  call-not-unfinished : (b : Bench) (call : Call) → InRun M list bounds b
+      → NotUnfinished place (doCall b call)
+  call-not-unfinished b (releases other demand) run =
+      release-not-unfinished b run place first within other demand
+  call-not-unfinished b ticks run = tick-not-unfinished b run place
+
+  -- a bound holds in each history from a bench in a run
+  run-holds : (start : Bench) (calls : List Call) → InRun M list bounds start
+      → Holds start calls place (boundAt bounds place)
+  run-holds start calls run =
+      let end = run-after start calls run in
+      record {
+        over-in-time = bench-over (after start calls) end place first within;
+        ends-in-time = run-steps (EndsInTime place (boundAt bounds place)) call-ends start calls run;
+        not-unfinished = run-steps (NotUnfinished place) call-not-unfinished start calls run;
+        can-be-released = release-not-unfinished (after start calls) end place first within place;
+      }
+
+-- an empty bench is in a run
+run-start : (cores : ℕ) (table : Table) → SoundList cores (rowsOf table)
+    → InRun cores (rowsOf table) (boundsOf cores table) (emptyBench cores table)
+unfolding emptyBench
+run-start cores table sound =
+    record {
+      cores-are = refl;
+      rows-are = refl;
+      inv =
+          inv-start (sound .some-cores)
+          (record { flags = []; vs = []; no-carrier = refl; no-work = refl; rows = no-rows })
+          (sound .sound-rows) (judged-walk cores (rowsOf table) sound) rowCapacity (sound .few-rows);
+    }
+
+-- Demand 3: the bound of every row that has one holds on a running board.
+pub bounds-hold : BoundsHold
+bounds-hold cores table start is calls place first within =
+    let sound = opened-sound cores table start is in
+    rw (opened-empty cores table start is .1)
+    (run-holds place first within (emptyBench cores table) calls (run-start cores table sound))

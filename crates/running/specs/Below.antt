@@ -1,0 +1,34 @@
+-- Rows below make no difference: neither to a row's bound nor to what the row does on a running board.
+use Prim.Native.Nat.{ℕ, _≤_}
+use mathlib.Core.Path.{_≡_}
+use mathlib.Core.List.{List}
+use mathlib.Core.Option.{some}
+use lib.ListN.{length, take}
+use Rattle.quantities.specs.declared.Table.{Table}
+use Rattle.quantities.specs.Table.{rowsOf}
+use Rattle.bench.specs.declared.Bench.{Bench}
+use Rattle.bench.specs.Step.{opened}
+use Rattle.bench.specs.History.{Call, after, callsTo, heard}
+use Rattle.running.specs.Running.{boundsOf}
+
+-- Two benches that were opened for as many cores, for tables that have the same rows down to place k.
+pub record SameRows (k cores : ℕ) (table table′ : Table) (start start′ : Bench) : Type 0 where
+  pub opened-first : opened cores table ≡ some start
+  pub opened-second : opened cores table′ ≡ some start′
+  pub tall-first : k ≤ length (rowsOf table)
+  pub tall-second : k ≤ length (rowsOf table′)
+  pub rows : take k (rowsOf table) ≡ take k (rowsOf table′)
+
+-- Two histories are the same for the rows down to place k: the instant, their states, and each answer to a
+-- tick or to a release of theirs.
+pub record SameRun (k : ℕ) (start start′ : Bench) (calls calls′ : List Call) : Type 0 where
+  pub instant : after start calls .now .0 ≡ after start′ calls′ .now .0
+  pub states : take k (after start calls .states) ≡ take k (after start′ calls′ .states)
+  pub answers : heard k start calls ≡ heard k start′ calls′
+
+-- Down to place k the bounds are the same, and so are histories with the same ticks and releases there.
+abbrev pub RowsBelow : Type 0
+RowsBelow =
+    (k cores : ℕ) (table table′ : Table) (start start′ : Bench) → SameRows k cores table table′ start start′
+    → (take k (boundsOf cores table) ≡ take k (boundsOf cores table′))
+    × ((calls calls′ : List Call) → callsTo k calls ≡ callsTo k calls′ → SameRun k start start′ calls calls′)
