@@ -4,3 +4,4 @@ pub mod Records
 pub mod Entries
 pub mod Checks
 pub mod Reader
+pub mod Order
