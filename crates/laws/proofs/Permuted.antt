@@ -1,10 +1,9 @@
 -- Laws of permuted lists: what does not depend on the order.
-use Prim.Native.Nat.{ℕ}
+use Prim.Native.Nat.{suc}
 use mathlib.Core.Logic.{_⊎_, inl, inr, ⊎-elim}
 use mathlib.Core.Path.{_≡_, refl, ap, _∙_}
-use mathlib.Core.List.{List, [], _∷_, map}
+use mathlib.Core.List.{List, [], _∷_, _++_}
 use lib.ListN.{length}
-use Prim.Native.Nat.{suc}
 use Rattle.laws.specs.Each.{Each}
 use Rattle.laws.specs.Member.{Member}
 use Rattle.laws.specs.Permuted.{Permuted, as-is, keep, swap, both}
@@ -33,3 +32,11 @@ module _ {A : Type 0} where
   permuted-member a (keep x p) m = ⊎-elim (λ e. inl e) (λ t. inr (permuted-member a p t)) m
   permuted-member a (swap x y) m = ⊎-elim (λ e. inr (inl e)) (λ t. ⊎-elim (λ e. inl e) (λ u. inr (inr u)) t) m
   permuted-member a (both p q) m = permuted-member a q (permuted-member a p m)
+
+  pub permuted-after : (xs : List A) {ys zs : List A} → Permuted ys zs → Permuted (xs ++ ys) (xs ++ zs)
+  permuted-after [] p = p
+  permuted-after (x ∷ xs) p = keep x (permuted-after xs p)
+
+  pub permuted-move : (x : A) (xs ys : List A) → Permuted (x ∷ xs ++ ys) (xs ++ (x ∷ ys))
+  permuted-move x [] ys = as-is
+  permuted-move x (y ∷ xs) ys = both (swap x y) (keep y (permuted-move x xs ys))

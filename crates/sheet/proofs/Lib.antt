@@ -5,3 +5,5 @@ pub mod Entries
 pub mod Checks
 pub mod Reader
 pub mod Order
+pub mod Sheets
+pub mod Accepted

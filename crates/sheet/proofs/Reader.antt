@@ -14,7 +14,7 @@ use Rattle.sheet.specs.declared.Reading.{Reading}
 use Rattle.sheet.specs.declared.Verdict.{Verdict}
 use Rattle.sheet.specs.declared.Verdict.the-variants.{Sound, Refused}
 use Rattle.sheet.proofs.Records.{Found, nothing, unknown, cut, board, row, end, found, length-board, length-row, length-end}
-use Rattle.sheet.proofs.Checks.{verdict-missing, verdict-unknown, cut-misplaced, cut-placed}
+use Rattle.sheet.proofs.Checks.{sound-not-refused, verdict-missing, verdict-unknown, cut-misplaced, cut-placed}
 
 -- the verdict on the record that stands on a part
 abbrev pub verdictAt : ℕ → Reading → List ℕ → Verdict
@@ -36,10 +36,6 @@ module _ (limit : ℕ) (reading : Reading) (at : ℕ) (part : List ℕ) where
       → readFrom (suc limit) reading at part ≡ readFrom limit (afterRecord reading (recordOn part)) (at + sizeOf (recordOn part)) (drop (sizeOf (recordOn part)) part)
   unfolding readFrom
   read-on e last = rw (e, last, readFrom)
-
--- a verdict is not both
-pub sound-not-refused : (number place : ℕ) → Refused number place ≡ Sound → ⊥
-sound-not-refused number place e = let z : _≡_ {A = ℕ} 0 1 = cc in omega arith
 
 -- A record that nothing is wrong with has a byte or more, all of them on the sheet.
 pub record Within (size left : ℕ) : Type 0 where

@@ -4,4 +4,5 @@ pub mod Records
 pub mod Entries
 pub mod Checks
 pub mod Reader
+pub mod Whole
 pub mod Cases
