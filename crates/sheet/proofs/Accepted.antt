@@ -97,5 +97,5 @@ acceptable entries (new ∷ news) h a =
       few = omega (arith, r .few, length-inserted new entries);
       permitted = (a .1, r .permitted);
       different = (each-differs (new .priority) news (b .0), r .different);
-      fresh = (a .2, b .1)
+      fresh = (a .2, b .1);
     }

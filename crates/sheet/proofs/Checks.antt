@@ -52,6 +52,19 @@ module _ (at left : ℕ) (reading : Reading) where
     unfolding recordChecks
     cut-placed e = verdict-passes 13 at _ (check 11 at true ∷ []) e ∙ verdict-fails 11 at true [] refl
 
+    pub cut-not-sound : verdictOf (recordChecks at left reading (Cut kind)) ≡ Sound → ⊥
+    cut-not-sound s = go (misplaced (reading .begun) kind) refl
+      where
+        go : (b : Bool) → misplaced (reading .begun) kind ≡ b → ⊥
+        go true e = sound-not-refused 13 at (sym (cut-misplaced e) ∙ s)
+        go false e = sound-not-refused 11 at (sym (cut-placed e) ∙ s)
+
+  pub missing-not-sound : verdictOf (recordChecks at left reading Missing) ≡ Sound → ⊥
+  missing-not-sound s = sound-not-refused 11 at (sym verdict-missing ∙ s)
+
+  pub unknown-not-sound : verdictOf (recordChecks at left reading Unknown) ≡ Sound → ⊥
+  unknown-not-sound s = sound-not-refused 12 at (sym verdict-unknown ∙ s)
+
   module _ (cores : ℕ) (tick : Micros) where
     pub board-misplaced : misplaced (reading .begun) boardKind ≡ true → verdictOf (recordChecks at left reading (Board cores tick)) ≡ Refused 13 at
     unfolding recordChecks
@@ -119,7 +132,7 @@ sound-row at sheet priority s =
       room = leb-false rowCapacity (sheet .count) (a .0);
       filled = omega arith;
       in-range = ltb-false topPriority priority (n .1);
-      unused = c .0
+      unused = c .0;
     }
 
 -- an end record is sound exactly where it counts the rows and is the last two bytes
@@ -139,7 +152,7 @@ sound-end at left sheet count s =
     let b = sound-first 18 _ _ _ (a .1) in
     record {
       counted = eqb-true count (sheet .count) (not-false (eqb count (sheet .count)) (a .0));
-      last = ltb-false 2 left (rw length-end at (b .0))
+      last = ltb-false 2 left (rw length-end at (b .0));
     }
 
 -- a board record is sound exactly where its tick length is not 0

@@ -7,3 +7,6 @@ pub mod Reader
 pub mod Order
 pub mod Sheets
 pub mod Accepted
+pub mod Parts
+pub mod Whole
+pub mod Sound

@@ -72,7 +72,7 @@ sheetOf cores tick entries =
       cores = cores;
       tick = tick;
       count = length entries;
-      entries = entries ++ replicate (rowCapacity - length entries) noEntry
+      entries = entries ++ replicate (rowCapacity - length entries) noEntry;
     }
 
 -- the entries with new ones at their places, one after the other

@@ -53,3 +53,11 @@ pub record WholeSheet (board : List ℕ) (rows : List (List ℕ)) (end : List �
 -- the sheet that they make
 abbrev pub bytesOf : List ℕ → List (List ℕ) → List ℕ → List ℕ
 bytesOf board rows end = board ++ (joined rows ++ end)
+
+-- A sheet that is made of such records.
+pub record MadeOf (bytes : List ℕ) : Type 0 where
+  pub board : List ℕ
+  pub rows : List (List ℕ)
+  pub end : List ℕ
+  pub made : bytes ≡ bytesOf board rows end
+  pub in-order : WholeSheet board rows end
