@@ -10,3 +10,6 @@ pub mod Accepted
 pub mod Parts
 pub mod Whole
 pub mod Sound
+pub mod Answers
+pub mod Tables
+pub mod Prefix

@@ -26,6 +26,17 @@ pub length-end : recordLength endKind ≡ 2
 unfolding recordLength
 length-end = refl
 
+-- no record is longer than a row
+pub length-most : (kind : ℕ) → recordLength kind ≤ 17
+unfolding recordLength
+length-most kind = go (eqb kind boardKind) (eqb kind rowKind) (eqb kind endKind)
+  where
+    go : (a b c : Bool) → cond a 4 (cond b 17 (cond c 2 0)) ≤ 17
+    go true b c = omega arith
+    go false true c = omega arith
+    go false false true = omega arith
+    go false false false = omega arith
+
 -- a kind that some record has, and that is neither a board's nor a row's, is an end's
 pub other-is-end : (kind : ℕ) → (kind ≡ boardKind → ⊥) → (kind ≡ rowKind → ⊥) → (recordLength kind ≡ 0 → ⊥) → kind ≡ endKind
 unfolding recordLength

@@ -120,6 +120,17 @@ length-joined [] r = refl
 length-joined (row ∷ rows) r =
     omega (arith, length-append row (joined rows), r .0 .in-full, length-row, length-joined rows (r .1))
 
+-- the rows of a sheet without fault are accepted
+pub whole-accepted : (board : List ℕ) (rows : List (List ℕ)) (end : List ℕ) → WholeSheet board rows end → Accepted [] (entriesOn (tickOn board) rows)
+whole-accepted board rows end w =
+    accepted [] (entriesOn (tickOn board) rows)
+    (record {
+      few = omega (arith, w .few-rows, length-entries (tickOn board) rows);
+      permitted = w .permitted;
+      different = w .different;
+      fresh = fresh-none (entriesOn (tickOn board) rows);
+    })
+
 -- The sheet that a board record, rows and an end record make is read to the end.
 pub whole-read : (board : List ℕ) (rows : List (List ℕ)) (end : List ℕ) → WholeSheet board rows end
     → readOf (bytesOf board rows end) ≡ whole (sheetOf (coresOn board) (tickOn board) (insertedAll (entriesOn (tickOn board) rows) []))
@@ -127,7 +138,7 @@ unfolding readOf
 whole-read board rows end w =
     let rest = joined rows ++ end in
     let size : length board ≡ 4 = w .board-first .in-full ∙ length-board in
-    let a = accepted [] (entriesOn (tickOn board) rows) (record { few = omega (arith, w .few-rows, length-entries (tickOn board) rows); permitted = w .permitted; different = w .different; fresh = fresh-none (entriesOn (tickOn board) rows) }) in
+    let a = whole-accepted board rows end w in
     let l = length-joined rows (w .then-rows) in
     board-read board rest (w .board-first) (w .some-tick) (length (board ++ rest))
     ∙ rows-read (coresOn board) (tickOn board) [] rows end 4 (length (board ++ rest)) (w .then-rows) a (w .end-last) (omega (arith, w .counted)) (omega (arith, length-append board rest, length-append (joined rows) end))
