@@ -30,10 +30,6 @@ use Rattle.sheet.proofs.Accepted.{Accepted, accepted, accepted-rising, 
 use Rattle.sheet.proofs.Whole.{whole-read, whole-accepted, length-joined}
 use Rattle.sheet.proofs.Sound.{sound-made}
 
--- the statement of `read` leaves one outcome
-pub one-outcome : (sheet : List ℕ) (a b : Outcome) → a ≡ readOf sheet → b ≡ readOf sheet → a ≡ b
-one-outcome sheet a b p q = p ∙ sym q
-
 -- The entries of the rows that a sheet without fault is made of, in rising priority.
 module _ (board : List ℕ) (rows : List (List ℕ)) (end : List ℕ) (w : WholeSheet board rows end) where
   abbrev pub arranged : List Entry
@@ -58,10 +54,6 @@ module _ (sheet : List ℕ) (m : MadeOf sheet) where
   unfolding whole
   entries-made =
       ap (λ (o : Outcome). entriesOf (o .sheet)) answer-made ∙ entries-of-sheet (coresOn (m .board)) (tickOn (m .board)) (arranged (m .board) (m .rows) (m .end) (m .in-order))
-
-  -- the priorities of the table rise strictly
-  pub priorities-rise : Rising (entriesOf (readOf sheet .sheet))
-  priorities-rise = rw entries-made (arranged-rise (m .board) (m .rows) (m .end) (m .in-order))
 
   -- the table's rows are the sheet's rows, each once, with the same labels and times
   pub rows-each-once : Permuted (entriesOn (tickOn (m .board)) (m .rows)) (entriesOf (readOf sheet .sheet))

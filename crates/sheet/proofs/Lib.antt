@@ -13,3 +13,4 @@ pub mod Sound
 pub mod Answers
 pub mod Tables
 pub mod Prefix
+pub mod Promises

@@ -5,4 +5,5 @@ pub mod Entries
 pub mod Checks
 pub mod Reader
 pub mod Whole
+pub mod Promises
 pub mod Cases
