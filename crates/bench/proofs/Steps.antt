@@ -5,10 +5,13 @@ use mathlib.Core.List.{[]}
 use mathlib.Core.Option.{Option, none, some}
 use native.Mathlib.Omega.{arith}
 use Rattle.bench.specs.declared.Bench.{Bench}
+use Rattle.bench.specs.declared.Finishes.{Finishes}
+use Rattle.bench.specs.declared.Released.{Released}
+use Rattle.bench.specs.Ended.{finishesOf}
 use Rattle.bench.specs.declared.Refusal.{Refusal}
 use Rattle.bench.specs.declared.Outcome.the-variants.{Taken, Refused}
 use Rattle.bench.specs.Refusal.{firstRefusal, releaseTests, tickTests}
-use Rattle.bench.specs.Step.{Step, unless, started, release, taken, tick}
+use Rattle.bench.specs.Step.{Step, unless, started, release, taken, tick, releasedOf, tickedOf}
 use Rattle.bench.specs.History.{Call, releases, ticks, doCall}
 
 abbrev pub refusedStep : Refusal → Bench → Step
@@ -51,3 +54,16 @@ refused-same b ticks why = go (firstRefusal (tickTests b)) refl
     go (some other) q e =
         let same : other ≡ why = cc (tick-refused b other q) in
         rw same at (tick-refused b other q)
+
+-- A release ends no poll, so that its answer as one of a call lists none.
+pub release-no-polls : (b : Bench) (place demand : ℕ) → release b place demand .finishes ≡ []
+release-no-polls b place demand = go (firstRefusal (releaseTests b place demand)) refl
+  where
+    go : (found : Option Refusal) → firstRefusal (releaseTests b place demand) ≡ found → release b place demand .finishes ≡ []
+    go none q = rw (release-taken b place demand q)
+    go (some why) q = rw (release-refused b place demand why q)
+
+pub released-answer : (b : Bench) (place demand : ℕ) (r : Released) → r ≡ releasedOf (release b place demand) → (f : Finishes) → f ≡ finishesOf []
+    → record { outcome = r .outcome; finishes = f; bench = r .bench } ≡ tickedOf (release b place demand)
+unfolding releasedOf tickedOf
+released-answer b place demand r er f ef = rw (er, ef, release-no-polls b place demand)

@@ -5,6 +5,8 @@ use mathlib.Core.List.{List, [], _∷_}
 use lib.Dec.{eqb, leb, ltb}
 use lib.ListN.{getD}
 use Rattle.bench.specs.declared.Bench.{Bench}
+use Rattle.bench.specs.declared.Request.{Request}
+use Rattle.bench.specs.declared.Request.the-variants.{Release, Tick}
 use Rattle.bench.specs.declared.Outcome.{Outcome}
 use Rattle.bench.specs.declared.Outcome.the-variants.{Taken, Refused}
 use Rattle.bench.specs.declared.Finish.{Finish}
@@ -14,6 +16,11 @@ use Rattle.bench.specs.Step.{Step, release, tick, served}
 pub data Call : Type 0 where
   releases : (place demand : ℕ) → Call
   ticks : Call
+
+-- the call that the code's request stands for
+unfoldable pub callOf : Request → Call
+callOf (Release place demand) = releases place (demand .0)
+callOf Tick = ticks
 
 -- what a call does
 abbrev pub doCall : Bench → Call → Step

@@ -7,6 +7,7 @@ ghost use Rattle.bench.specs.Record.{lastInstant, rows, lastBroken, rowB
 ghost use Rattle.bench.specs.Refusal.{outcomeOf, firstRefusal, releaseTests, tickTests, tooSoon};
 ghost use Rattle.bench.specs.Serving.{since, turnOf};
 ghost use Rattle.bench.specs.Ended.{finishesOf, noted};
+ghost use Rattle.bench.specs.History.{doCall, callOf};
 ghost use Rattle.bench.specs.Step.{emptyBench, noBench, openingOf, releasedOf, tickedOf, release, tick, taken};
 use quantities::Checked;
 use quantities::Instant;
@@ -33,6 +34,12 @@ pub struct Bench {
     pub table: Table,
     pub now: Instant,
     pub states: [RowState; Table::ROW_CAPACITY],
+}
+
+// A call on the bench.
+pub enum Request {
+    Release(usize, Ticks),
+    Tick,
 }
 
 // Why a call is turned away, at the place given: numbers 20 to 24 and 29 of document 01.
@@ -165,6 +172,7 @@ fn since(instant: Instant, last: Last) -> Ticks
 fn serve_row(state: RowState, free: u32) -> Turn
     ensures { λ r. ⌜ r ≡ turnOf free state ⌝ }
 {
+    let demand = state.demand.0;
     let left = state.left.0;
     if free == 0 {
         return Turn {
@@ -181,15 +189,16 @@ fn serve_row(state: RowState, free: u32) -> Turn
         };
     }
     let last = state.last;
-    let demand = state.demand;
+    let rest = left - 1;
     let next = RowState {
         last: last,
-        demand: demand,
-        left: Ticks(left - 1),
+        demand: Ticks(demand),
+        left: Ticks(rest),
     };
+    let cores = free - 1;
     Turn {
         state: next,
-        free: free - 1,
+        free: cores,
         ends: left == 1,
     }
 }
@@ -429,5 +438,25 @@ impl Bench {
             Outcome::Taken => {}
         }
         serve(self)
+    }
+
+    // The answer to a call, and the bench after it; a release ends no poll.
+    pub fn answer(self, request: Request) -> Ticked
+        ensures { λ r. ⌜ r ≡ tickedOf (doCall self (callOf request)) ⌝ }
+    {
+        match request {
+            Request::Tick => self.tick(),
+            Request::Release(place, demand) => {
+                let released = self.release(place, demand);
+                let finishes = Finishes::none();
+                let outcome = released.outcome;
+                let bench = released.bench;
+                Ticked {
+                    outcome: outcome,
+                    finishes: finishes,
+                    bench: bench,
+                }
+            }
+        }
     }
 }

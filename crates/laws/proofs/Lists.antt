@@ -1,9 +1,11 @@
 -- Laws of lists that the kit's library does not have.
-use Prim.Native.Nat.{ℕ, zero, suc, _<_}
-use mathlib.Core.Path.{_≡_, refl, ap}
+use Prim.Native.Nat.{ℕ, zero, suc, _+_, _<_}
+use native.Mathlib.Nat.{zero-add, suc-add}
+use mathlib.Core.Path.{_≡_, refl, sym, ap}
 use mathlib.Core.List.{List, [], _∷_, _++_, map}
 use native.Mathlib.Omega.{arith}
-use lib.ListN.{length, getD, take, set, replicate}
+use lib.ListN.{length, getD, take, drop, set, replicate}
+use lib.Seq.{take-nil}
 use Rattle.laws.specs.Each.{Each}
 
 module _ {A : Type 0} where
@@ -29,6 +31,12 @@ module _ {A : Type 0} where
   each-at P [] i d h each = absurd (omega arith)
   each-at P (x ∷ xs) zero d h each = each .0
   each-at P (x ∷ xs) (suc i) d h each = each-at P xs i d (omega arith) (each .1)
+
+  -- what is left of the first elements, past some of them, is the first of what is left
+  pub drop-take : (m n : ℕ) (xs : List A) → drop m (take (m + n) xs) ≡ take n (drop m xs)
+  drop-take zero n xs = rw zero-add
+  drop-take (suc m) n [] = rw (suc-add m n) (sym (take-nil n))
+  drop-take (suc m) n (x ∷ xs) = rw (suc-add m n) (drop-take m n xs)
 
 module _ {A B : Type 0} (f : A → B) where
   -- a map of the first elements, and of a list with one element changed

@@ -1,2 +1,4 @@
 -- Words about lists that definitions use.
 pub mod Each
+pub mod Permuted
+pub mod Member

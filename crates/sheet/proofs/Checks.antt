@@ -1,17 +1,27 @@
 -- Laws of the checks of a record: which one decides.
-use Prim.Native.Nat.{ℕ}
+use Prim.Native.Nat.{ℕ, _≤_, _<_}
 use native.Mathlib.Omega.{arith}
 use mathlib.Core.Path.{_≡_, refl, sym, _∙_}
-use mathlib.Core.Bool.{Bool, true, false}
+use mathlib.Core.Bool.{Bool, true, false, _||_}
 use mathlib.Core.List.{List, [], _∷_}
+use lib.Dec.{eqb, ltb}
+use borrow.Author.Tests.{eq-eqb, ne-eqb, le-ltb, lt-leb, eqb-true, eqb-false, leb-false, ltb-false, not-false}
+use Rattle.quantities.specs.Limits.{rowCapacity}
 use Rattle.quantities.specs.Checks.{Check, check, firstFailing}
 use Rattle.quantities.specs.declared.Micros.{Micros}
 use Rattle.sheet.specs.Records.{boardKind, rowKind, endKind}
-use Rattle.sheet.specs.Checks.{misplaced, boardChecks, rowChecks, endChecks, recordChecks, verdictOf}
+use Rattle.sheet.specs.Entries.{entriesOf, used}
+use Rattle.sheet.specs.Checks.{topPriority, misplaced, boardChecks, rowChecks, endChecks, recordChecks, verdictOf}
 use Rattle.sheet.specs.declared.RowFields.{RowFields}
 use Rattle.sheet.specs.declared.Record.the-variants.{Missing, Unknown, Cut, Board, Row, End}
+use Rattle.sheet.specs.declared.Sheet.{Sheet}
 use Rattle.sheet.specs.declared.Reading.{Reading}
 use Rattle.sheet.specs.declared.Verdict.the-variants.{Sound, Refused}
+use Rattle.sheet.proofs.Records.{length-end}
+
+-- a verdict is not both
+pub sound-not-refused : (number place : ℕ) → Refused number place ≡ Sound → ⊥
+sound-not-refused number place e = let z : _≡_ {A = ℕ} 0 1 = cc in omega arith
 
 -- The first check decides where it fails, else those after it do.
 module _ (number place : ℕ) (fails : Bool) (rest : List Check) where
@@ -42,6 +52,19 @@ module _ (at left : ℕ) (reading : Reading) where
     unfolding recordChecks
     cut-placed e = verdict-passes 13 at _ (check 11 at true ∷ []) e ∙ verdict-fails 11 at true [] refl
 
+    pub cut-not-sound : verdictOf (recordChecks at left reading (Cut kind)) ≡ Sound → ⊥
+    cut-not-sound s = go (misplaced (reading .begun) kind) refl
+      where
+        go : (b : Bool) → misplaced (reading .begun) kind ≡ b → ⊥
+        go true e = sound-not-refused 13 at (sym (cut-misplaced e) ∙ s)
+        go false e = sound-not-refused 11 at (sym (cut-placed e) ∙ s)
+
+  pub missing-not-sound : verdictOf (recordChecks at left reading Missing) ≡ Sound → ⊥
+  missing-not-sound s = sound-not-refused 11 at (sym verdict-missing ∙ s)
+
+  pub unknown-not-sound : verdictOf (recordChecks at left reading Unknown) ≡ Sound → ⊥
+  unknown-not-sound s = sound-not-refused 12 at (sym verdict-unknown ∙ s)
+
   module _ (cores : ℕ) (tick : Micros) where
     pub board-misplaced : misplaced (reading .begun) boardKind ≡ true → verdictOf (recordChecks at left reading (Board cores tick)) ≡ Refused 13 at
     unfolding recordChecks
@@ -71,3 +94,75 @@ module _ (at left : ℕ) (reading : Reading) where
         → verdictOf (recordChecks at left reading (End count)) ≡ verdictOf (endChecks at left (reading .sheet) count)
     unfolding recordChecks
     end-placed e = verdict-passes 13 at _ (endChecks at left (reading .sheet) count) e
+
+-- What a sound verdict says of the checks, and the checks of a sound verdict.
+pub sound-first : (number place : ℕ) (fails : Bool) (rest : List Check) → verdictOf (check number place fails ∷ rest) ≡ Sound
+    → (fails ≡ false) × (verdictOf rest ≡ Sound)
+sound-first number place fails rest s = go fails refl
+  where
+    go : (b : Bool) → fails ≡ b → (fails ≡ false) × (verdictOf rest ≡ Sound)
+    go true e = absurd (sound-not-refused number place (sym (verdict-fails number place fails rest e) ∙ s))
+    go false e = (e, sym (verdict-passes number place fails rest e) ∙ s)
+
+neither : (a b : Bool) → (a || b) ≡ false → (a ≡ false) × (b ≡ false)
+neither true b e = absurd (let z : _≡_ {A = ℕ} 0 1 = cc in omega arith)
+neither false b e = (refl, e)
+
+-- a row record is sound exactly where there is room for it, its priority is 1 to 999, and no row has it
+pub record SoundRow (sheet : Sheet) (priority : ℕ) : Type 0 where
+  pub room : sheet .count < rowCapacity
+  pub filled : 0 < priority
+  pub in-range : priority ≤ topPriority
+  pub unused : used priority (entriesOf sheet) ≡ false
+
+pub row-sound : (at : ℕ) (sheet : Sheet) (priority : ℕ) → SoundRow sheet priority → verdictOf (rowChecks at sheet priority) ≡ Sound
+unfolding rowChecks verdictOf firstFailing
+row-sound at sheet priority r =
+    simp (lt-leb rowCapacity (sheet .count) (r .room), ne-eqb priority 0 (omega (arith, r .filled)), le-ltb topPriority priority (r .in-range), r .unused)
+
+pub sound-row : (at : ℕ) (sheet : Sheet) (priority : ℕ) → verdictOf (rowChecks at sheet priority) ≡ Sound → SoundRow sheet priority
+unfolding rowChecks
+sound-row at sheet priority s =
+    let a = sound-first 14 at _ _ s in
+    let b = sound-first 16 at _ _ (a .1) in
+    let c = sound-first 15 at _ _ (b .1) in
+    let n = neither (eqb priority 0) (ltb topPriority priority) (b .0) in
+    let z = eqb-false priority 0 (n .0) in
+    record {
+      room = leb-false rowCapacity (sheet .count) (a .0);
+      filled = omega arith;
+      in-range = ltb-false topPriority priority (n .1);
+      unused = c .0;
+    }
+
+-- an end record is sound exactly where it counts the rows and is the last two bytes
+pub record SoundEnd (left : ℕ) (sheet : Sheet) (count : ℕ) : Type 0 where
+  pub counted : count ≡ sheet .count
+  pub last : left ≤ 2
+
+pub end-sound : (at left : ℕ) (sheet : Sheet) (count : ℕ) → SoundEnd left sheet count → verdictOf (endChecks at left sheet count) ≡ Sound
+unfolding endChecks verdictOf firstFailing
+end-sound at left sheet count e =
+    simp (length-end, eq-eqb count (sheet .count) (e .counted), le-ltb 2 left (e .last))
+
+pub sound-end : (at left : ℕ) (sheet : Sheet) (count : ℕ) → verdictOf (endChecks at left sheet count) ≡ Sound → SoundEnd left sheet count
+unfolding endChecks
+sound-end at left sheet count s =
+    let a = sound-first 17 at _ _ s in
+    let b = sound-first 18 _ _ _ (a .1) in
+    record {
+      counted = eqb-true count (sheet .count) (not-false (eqb count (sheet .count)) (a .0));
+      last = ltb-false 2 left (rw length-end at (b .0));
+    }
+
+-- a board record is sound exactly where its tick length is not 0
+pub board-sound : (at : ℕ) (tick : Micros) → 0 < tick .0 → verdictOf (boardChecks at tick) ≡ Sound
+unfolding boardChecks verdictOf firstFailing
+board-sound at tick h = simp (ne-eqb (tick .0) 0 (omega arith))
+
+pub sound-board : (at : ℕ) (tick : Micros) → verdictOf (boardChecks at tick) ≡ Sound → 0 < tick .0
+unfolding boardChecks
+sound-board at tick s =
+    let a = sound-first 19 at _ _ s in
+    let z = eqb-false (tick .0) 0 (a .0) in
+    omega arith

@@ -4,3 +4,13 @@ pub mod Records
 pub mod Entries
 pub mod Checks
 pub mod Reader
+pub mod Order
+pub mod Sheets
+pub mod Accepted
+pub mod Parts
+pub mod Whole
+pub mod Sound
+pub mod Answers
+pub mod Tables
+pub mod Prefix
+pub mod Promises

@@ -7,14 +7,14 @@ use mathlib.Core.List.{List, [], _∷_}
 use lib.ListN.{length, getD, drop, length-drop}
 use lib.Seq.{drop-drop}
 use Rattle.sheet.specs.Records.{recordLength, recordOn, kindOf, sizeOf, isEnd}
-use Rattle.sheet.specs.Checks.{misplaced, recordChecks, verdictOf}
+use Rattle.sheet.specs.Checks.{recordChecks, verdictOf}
 use Rattle.sheet.specs.Reader.{newReading, afterRecord, refused, whole, readFrom, readOf}
 use Rattle.sheet.specs.declared.Record.{Record}
 use Rattle.sheet.specs.declared.Reading.{Reading}
 use Rattle.sheet.specs.declared.Verdict.{Verdict}
 use Rattle.sheet.specs.declared.Verdict.the-variants.{Sound, Refused}
 use Rattle.sheet.proofs.Records.{Found, nothing, unknown, cut, board, row, end, found, length-board, length-row, length-end}
-use Rattle.sheet.proofs.Checks.{verdict-missing, verdict-unknown, cut-misplaced, cut-placed}
+use Rattle.sheet.proofs.Checks.{missing-not-sound, unknown-not-sound, cut-not-sound}
 
 -- the verdict on the record that stands on a part
 abbrev pub verdictAt : ℕ → Reading → List ℕ → Verdict
@@ -37,10 +37,6 @@ module _ (limit : ℕ) (reading : Reading) (at : ℕ) (part : List ℕ) where
   unfolding readFrom
   read-on e last = rw (e, last, readFrom)
 
--- a verdict is not both
-pub sound-not-refused : (number place : ℕ) → Refused number place ≡ Sound → ⊥
-sound-not-refused number place e = let z : _≡_ {A = ℕ} 0 1 = cc in omega arith
-
 -- A record that nothing is wrong with has a byte or more, all of them on the sheet.
 pub record Within (size left : ℕ) : Type 0 where
   pub some : 0 < size
@@ -49,13 +45,9 @@ pub record Within (size left : ℕ) : Type 0 where
 pub sound-within : (at left : ℕ) (reading : Reading) (part : List ℕ) (r : Record) → Found part r
     → verdictOf (recordChecks at left reading r) ≡ Sound → Within (sizeOf r) (length part)
 unfolding kindOf
-sound-within at left reading part r (nothing e) s = absurd (sound-not-refused 11 at (sym (verdict-missing at left reading) ∙ s))
-sound-within at left reading part r (unknown h e) s = absurd (sound-not-refused 12 at (sym (verdict-unknown at left reading) ∙ s))
-sound-within at left reading part r (cut h short) s = absurd (go (misplaced (reading .begun) (getD part 0 0)) refl)
-  where
-    go : (b : Bool) → misplaced (reading .begun) (getD part 0 0) ≡ b → ⊥
-    go true e = sound-not-refused 13 at (sym (cut-misplaced at left reading (getD part 0 0) e) ∙ s)
-    go false e = sound-not-refused 11 at (sym (cut-placed at left reading (getD part 0 0) e) ∙ s)
+sound-within at left reading part r (nothing e) s = absurd (missing-not-sound at left reading s)
+sound-within at left reading part r (unknown h e) s = absurd (unknown-not-sound at left reading s)
+sound-within at left reading part r (cut h short) s = absurd (cut-not-sound at left reading (getD part 0 0) s)
 sound-within at left reading part r (board e l) s = record { some = omega (arith, length-board); all = omega (arith, length-board) }
 sound-within at left reading part r (row e l) s = record { some = omega (arith, length-row); all = omega (arith, length-row) }
 sound-within at left reading part r (end e l) s = record { some = omega (arith, length-end); all = omega (arith, length-end) }

@@ -7,7 +7,7 @@ use mathlib.Core.List.{List, [], _∷_}
 use lib.Dec.{eqb}
 use lib.ListN.{length, getD}
 use native.Mathlib.Decide.{ℕ-discrete, decLe}
-use borrow.Author.Tests.{eq-eqb, ne-eqb, lt-ltb, le-ltb}
+use borrow.Author.Tests.{eq-eqb, ne-eqb, lt-ltb, le-ltb, eqb-true}
 use Rattle.sheet.specs.Bytes.{field}
 use Rattle.sheet.specs.Records.{boardKind, rowKind, endKind, recordLength, rowFields, wholeRecord, recordOn}
 use Rattle.sheet.specs.declared.Record.{Record}
@@ -26,15 +26,28 @@ pub length-end : recordLength endKind ≡ 2
 unfolding recordLength
 length-end = refl
 
--- a kind that some record has, and that is neither a board's nor a row's, is an end's
-pub other-is-end : (kind : ℕ) → (kind ≡ boardKind → ⊥) → (kind ≡ rowKind → ⊥) → (recordLength kind ≡ 0 → ⊥) → recordLength kind ≡ 2
+-- no record is longer than a row
+pub length-most : (kind : ℕ) → recordLength kind ≤ 17
 unfolding recordLength
-other-is-end kind no-board no-row known =
-    go (eqb kind endKind) (simp (ne-eqb kind boardKind no-board, ne-eqb kind rowKind no-row))
+length-most kind = go (eqb kind boardKind) (eqb kind rowKind) (eqb kind endKind)
   where
-    go : (b : Bool) → recordLength kind ≡ cond b 2 0 → recordLength kind ≡ 2
-    go true e = e
-    go false e = absurd (known e)
+    go : (a b c : Bool) → cond a 4 (cond b 17 (cond c 2 0)) ≤ 17
+    go true b c = omega arith
+    go false true c = omega arith
+    go false false true = omega arith
+    go false false false = omega arith
+
+-- a kind that some record has, and that is neither a board's nor a row's, is an end's
+pub other-is-end : (kind : ℕ) → (kind ≡ boardKind → ⊥) → (kind ≡ rowKind → ⊥) → (recordLength kind ≡ 0 → ⊥) → kind ≡ endKind
+unfolding recordLength
+other-is-end kind no-board no-row known = go (eqb kind endKind) refl
+  where
+    go : (b : Bool) → eqb kind endKind ≡ b → kind ≡ endKind
+    go true e = eqb-true kind endKind e
+    go false e = absurd (known (simp (ne-eqb kind boardKind no-board, ne-eqb kind rowKind no-row, e)))
+
+pub other-length : (kind : ℕ) → (kind ≡ boardKind → ⊥) → (kind ≡ rowKind → ⊥) → (recordLength kind ≡ 0 → ⊥) → recordLength kind ≡ 2
+other-length kind no-board no-row known = ap recordLength (other-is-end kind no-board no-row known) ∙ length-end
 
 -- What stands on a part, by the first test that decides.
 module _ (part : List ℕ) where
@@ -97,7 +110,7 @@ pub data Found (part : List ℕ) : Record → Type 0 where
   cut : 0 < length part → length part < recordLength (getD part 0 0) → Found part (Cut (getD part 0 0))
   board : getD part 0 0 ≡ boardKind → 4 ≤ length part → Found part (Board (field 1 1 part) (record { 0 = field 2 2 part }))
   row : getD part 0 0 ≡ rowKind → 17 ≤ length part → Found part (Row (rowFields part))
-  end : recordLength (getD part 0 0) ≡ 2 → 2 ≤ length part → Found part (End (field 1 1 part))
+  end : getD part 0 0 ≡ endKind → 2 ≤ length part → Found part (End (field 1 1 part))
 
 whole-found : (part : List ℕ) → (recordLength (getD part 0 0) ≡ 0 → ⊥) → recordLength (getD part 0 0) ≤ length part
     → Found part (wholeRecord (getD part 0 0) part)
@@ -110,7 +123,7 @@ whole-found part known long =
             | no no-row ↦
                 rw
                 (whole-end (getD part 0 0) part no-board no-row)
-                (end (other-is-end (getD part 0 0) no-board no-row known) (omega (arith, other-is-end (getD part 0 0) no-board no-row known)))
+                (end (other-is-end (getD part 0 0) no-board no-row known) (omega (arith, other-length (getD part 0 0) no-board no-row known)))
           ]
     ]
 

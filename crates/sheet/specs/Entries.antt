@@ -1,9 +1,11 @@
 -- The rows of a sheet as entries in rising priority, their times in ticks, and the table that they give.
-use Prim.Native.Nat.{ℕ, _+_, _/_}
+use Prim.Native.Nat.{ℕ, _+_, _-_, _/_, _<_}
+use mathlib.Core.Path.{_≡_}
 use mathlib.Core.Bool.{Bool, false, cond, _||_}
 use mathlib.Core.List.{List, [], _∷_, _++_}
 use lib.Dec.{eqb, ltb}
-use lib.ListN.{take, drop, replicate}
+use lib.ListN.{length, take, drop, replicate}
+use Rattle.laws.specs.Each.{Each}
 use Rattle.quantities.specs.Limits.{rowCapacity}
 use Rattle.quantities.specs.Row.{noRow}
 use Rattle.quantities.specs.Table.{emptyTable, withRow}
@@ -62,6 +64,31 @@ withEntry sheet new =
       entries = inserted new (entriesOf sheet) ++ drop (sheet .count + 1) (sheet .entries);
     })
     sheet
+
+-- the sheet of a board with these entries, and nothing past them
+unfoldable pub sheetOf : ℕ → Micros → List Entry → Sheet
+sheetOf cores tick entries =
+    record {
+      cores = cores;
+      tick = tick;
+      count = length entries;
+      entries = entries ++ replicate (rowCapacity - length entries) noEntry;
+    }
+
+-- the entries with new ones at their places, one after the other
+unfoldable pub insertedAll : List Entry → List Entry → List Entry
+insertedAll [] entries = entries
+insertedAll (new ∷ news) entries = insertedAll news (inserted new entries)
+
+-- priorities that rise strictly: each entry has a smaller number than all those below it
+abbrev pub Rising : List Entry → Type 0
+Rising [] = Unit {0}
+Rising (entry ∷ entries) = Each (λ lower. entry .priority < lower .priority) entries × Rising entries
+
+-- priorities that differ: none is used again
+abbrev pub Different : List Entry → Type 0
+Different [] = Unit {0}
+Different (entry ∷ entries) = (used (entry .priority) entries ≡ false) × Different entries
 
 -- a table with the rows of the entries below its own
 unfoldable pub tableWith : Table → List Entry → Table

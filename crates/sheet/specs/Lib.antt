@@ -4,4 +4,6 @@ pub mod Records
 pub mod Entries
 pub mod Checks
 pub mod Reader
+pub mod Whole
+pub mod Promises
 pub mod Cases

@@ -12,16 +12,16 @@ returns c = let a = c .before .args in sym (turn-no-core (a .free) (a .state) (c
 returns-2 : tie.Need-returns-2
 returns-2 c = let a = c .before .before .args in sym (turn-no-work (a .free) (a .state) (c .if2 .taken))
 
-sub-t8 : tie.Need-sub-t8
-sub-t8 c = search needs
+sub-rest : tie.Need-sub-rest
+sub-rest c = search needs
 
-sub-t10 : tie.Need-sub-t10
-sub-t10 c = search needs
+sub-cores : tie.Need-sub-cores
+sub-cores c = search needs
 
 returns-3 : tie.Need-returns-3
 returns-3 c =
-    let a = c .before .before .before .args in
+    let a = c .before .before .args in
     sym (turn-one (a .free) (a .state) (omega arith) (omega arith))
 
 pub serve-row-spec : {M : Type 1} → statement M
-serve-row-spec = tie.close (tie.spec returns returns-2 sub-t8 sub-t10 returns-3)
+serve-row-spec = tie.close (tie.spec returns returns-2 sub-rest sub-cores returns-3)

@@ -4,7 +4,7 @@ use mathlib.Core.Path.{_≡_, sym, ap}
 use lib.ListN.{length, getD}
 use Rattle.sheet.specs.Records.{recordLength, wholeRecord, recordOn}
 use Rattle.sheet.proofs.Bytes.{field-one}
-use Rattle.sheet.proofs.Records.{length-board, length-row, other-is-end, on-nothing, on-unknown, on-cut, on-whole, whole-board, whole-row, whole-end}
+use Rattle.sheet.proofs.Records.{length-board, length-row, other-length, on-nothing, on-unknown, on-cut, on-whole, whole-board, whole-row, whole-end}
 use borrow.Author.Needs.{needs}
 use Rattle.sheet.proofs.parse.record_on.Statement.{statement}
 use Rattle.sheet.proofs.parse.record_on.Tie as tie
@@ -78,7 +78,7 @@ shared-slice-read-counted : tie.Need-shared-slice-read-counted
 shared-slice-read-counted c =
     let part = c .before .before .before .before .before .before .before .before .before .args .part .now in
     let e = c .before .before .before .before .before .record-length .ensures in
-    omega (arith, other-is-end (getD part 0 0) (c .before .before .if4 .left) (c .before .if5 .left) (omega arith))
+    omega (arith, other-length (getD part 0 0) (c .before .before .if4 .left) (c .before .if5 .left) (omega arith))
 
 counted-requires : tie.Need-counted-requires
 counted-requires c κs = search needs
@@ -87,7 +87,7 @@ returns-6 : tie.Need-returns-6
 returns-6 c =
     let part = c .before .before .before .before .before .before .before .before .before .before .args .part .now in
     let e = c .before .before .before .before .before .before .record-length .ensures in
-    let f = field-one part 1 (omega (arith, other-is-end (getD part 0 0) (c .before .before .before .if4 .left) (c .before .before .if5 .left) (omega arith))) in
+    let f = field-one part 1 (omega (arith, other-length (getD part 0 0) (c .before .before .before .if4 .left) (c .before .before .if5 .left) (omega arith))) in
     let w = whole (c .before .before .before .before) in
     let b = whole-end (getD part 0 0) part (c .before .before .before .if4 .left) (c .before .before .if5 .left) in
     cc

@@ -1,0 +1,100 @@
+-- The promises of specs/Promises.antt, each proved under its name.
+use Prim.Native.Nat.{ℕ, _≤_}
+use native.Mathlib.Omega.{arith}
+use mathlib.Core.Path.{_≡_, refl, sym, ap, _∙_}
+use mathlib.Core.List.{List, [], map}
+use lib.ListN.{length}
+use Rattle.laws.proofs.Permuted.{permuted-length}
+use Rattle.quantities.specs.Limits.{rowCapacity}
+use Rattle.quantities.specs.Table.{rowsOf}
+use Rattle.quantities.specs.declared.Micros.{Micros}
+use Rattle.sheet.specs.Entries.{entriesOf, tableOf, sheetOf, boardSheet, Rising}
+use Rattle.sheet.specs.Reader.{noSheet, refused, whole, readOf}
+use Rattle.sheet.specs.Whole.{entriesOn, coresOn, tickOn, MadeOf}
+use Rattle.sheet.specs.Promises.{WholeExactly, BoardAnswered, EachRowOnce, PrioritiesRise, TableInOrder, AnyOrder, NoTableRefused, AtMost550, First1024, OneOutcome}
+use Rattle.sheet.specs.declared.Entry.{Entry}
+use Rattle.sheet.specs.declared.Sheet.{Sheet}
+use Rattle.sheet.specs.declared.Verdict.{Verdict}
+use Rattle.sheet.specs.declared.Verdict.the-variants.{Sound, Refused}
+use Rattle.sheet.specs.declared.Outcome.{Outcome}
+use Rattle.sheet.proofs.Sheets.{board-sheet, entries-of-sheet}
+use Rattle.sheet.proofs.Tables.{table-rows}
+use Rattle.sheet.proofs.Whole.{length-entries}
+use Rattle.sheet.proofs.Sound.{sound-made}
+use Rattle.sheet.proofs.Answers.{arranged, arranged-rise, arranged-each-once, answer-made, made-sound, rows-each-once, sound-short, rows-in-any-order, refused-no-table}
+use Rattle.sheet.proofs.Prefix.{read-first-bytes}
+
+pub whole-exactly : WholeExactly
+whole-exactly sheet = (sound-made sheet, made-sound sheet)
+
+pub board-answered : BoardAnswered
+unfolding whole sheetOf
+board-answered sheet m =
+    (ap (λ (o : Outcome). o .sheet .cores) (answer-made sheet m), ap (λ (o : Outcome). o .sheet .tick) (answer-made sheet m))
+
+pub each-row-once : EachRowOnce
+each-row-once = rows-each-once
+
+-- A sheet's answer is that of a list of at most 32 rising entries, refused or not.
+record Answered (sheet : Sheet) : Type 0 where
+  cores : ℕ
+  tick : Micros
+  entries : List Entry
+  is-sheet : sheet ≡ sheetOf cores tick entries
+  few : length entries ≤ rowCapacity
+  rise : Rising entries
+
+answered : (sheet : List ℕ) → Answered (readOf sheet .sheet)
+unfolding whole refused noSheet
+answered sheet = by-verdict (readOf sheet .verdict) refl
+  where
+    by-made : MadeOf sheet → Answered (readOf sheet .sheet)
+    by-made m =
+        let w = m .in-order in
+        let l = permuted-length (arranged-each-once (m .board) (m .rows) (m .end) w) in
+        record {
+          cores = coresOn (m .board);
+          tick = tickOn (m .board);
+          entries = arranged (m .board) (m .rows) (m .end) w;
+          is-sheet = ap (λ (o : Outcome). o .sheet) (answer-made sheet m);
+          few = omega (arith, w .few-rows, length-entries (tickOn (m .board)) (m .rows));
+          rise = arranged-rise (m .board) (m .rows) (m .end) w;
+        }
+
+    by-verdict : (v : Verdict) → readOf sheet .verdict ≡ v → Answered (readOf sheet .sheet)
+    by-verdict Sound e = by-made (sound-made sheet e)
+    by-verdict (Refused number place) e =
+        record {
+          cores = 0;
+          tick = record { 0 = 0 };
+          entries = [];
+          is-sheet =
+              ap (λ (o : Outcome). o .sheet) (refused-no-table sheet number place e) ∙ board-sheet 0 (record { 0 = 0 });
+          few = omega arith;
+          rise = tt;
+        }
+
+pub priorities-rise : PrioritiesRise
+priorities-rise sheet =
+    let a = answered sheet in
+    rw (a .is-sheet, entries-of-sheet (a .cores) (a .tick) (a .entries)) (a .rise)
+
+pub table-in-order : TableInOrder
+table-in-order sheet =
+    let a = answered sheet in
+    rw (a .is-sheet, entries-of-sheet (a .cores) (a .tick) (a .entries)) (table-rows (a .cores) (a .tick) (a .entries) (a .few))
+
+pub any-order : AnyOrder
+any-order = rows-in-any-order
+
+pub no-table-refused : NoTableRefused
+no-table-refused = refused-no-table
+
+pub at-most-550 : AtMost550
+at-most-550 = sound-short
+
+pub first-1024 : First1024
+first-1024 = read-first-bytes
+
+pub one-outcome : OneOutcome
+one-outcome sheet a b p q = p ∙ sym q

@@ -1,0 +1,62 @@
+-- What the reader promises of every sheet, a type for each sentence. proofs/Promises.antt proves each.
+use Prim.Native.Nat.{ℕ, _≤_}
+use mathlib.Core.Path.{_≡_}
+use mathlib.Core.List.{List, map}
+use lib.ListN.{length, take}
+use Rattle.laws.specs.Permuted.{Permuted}
+use Rattle.quantities.specs.Table.{rowsOf}
+use Rattle.sheet.specs.Entries.{entriesOf, tableOf, Rising}
+use Rattle.sheet.specs.Reader.{refused, readOf}
+use Rattle.sheet.specs.Whole.{entriesOn, coresOn, tickOn, WholeSheet, bytesOf, MadeOf}
+use Rattle.sheet.specs.declared.Entry.{Entry}
+use Rattle.sheet.specs.declared.Verdict.the-variants.{Sound, Refused}
+use Rattle.sheet.specs.declared.Outcome.{Outcome}
+
+-- A sheet is without fault exactly when it is a board record, rows in any order and an end record, as document 01 asks.
+abbrev pub WholeExactly : Type 0
+WholeExactly =
+    (sheet : List ℕ) → (readOf sheet .verdict ≡ Sound → MadeOf sheet) × (MadeOf sheet → readOf sheet .verdict ≡ Sound)
+
+-- The answer has the board's cores and tick length.
+abbrev pub BoardAnswered : Type 0
+BoardAnswered =
+    (sheet : List ℕ) (made : MadeOf sheet)
+    → (readOf sheet .sheet .cores ≡ coresOn (made .board)) × (readOf sheet .sheet .tick ≡ tickOn (made .board))
+
+-- Its rows are exactly the sheet's rows, each once, with their labels and their times in ticks.
+abbrev pub EachRowOnce : Type 0
+EachRowOnce =
+    (sheet : List ℕ) (made : MadeOf sheet)
+    → Permuted (entriesOn (tickOn (made .board)) (made .rows)) (entriesOf (readOf sheet .sheet))
+
+-- Their priorities rise strictly.
+abbrev pub PrioritiesRise : Type 0
+PrioritiesRise = (sheet : List ℕ) → Rising (entriesOf (readOf sheet .sheet))
+
+-- The table has the rows in that order.
+abbrev pub TableInOrder : Type 0
+TableInOrder =
+    (sheet : List ℕ) → rowsOf (tableOf (readOf sheet .sheet)) ≡ map (λ (entry : Entry). entry .row) (entriesOf (readOf sheet .sheet))
+
+-- Two sheets whose row records are permuted give the same answer.
+abbrev pub AnyOrder : Type 0
+AnyOrder =
+    (board : List ℕ) (rows others : List (List ℕ)) (end : List ℕ) → Permuted rows others → WholeSheet board rows end
+    → readOf (bytesOf board others end) ≡ readOf (bytesOf board rows end)
+
+-- A refused sheet yields no table.
+abbrev pub NoTableRefused : Type 0
+NoTableRefused =
+    (sheet : List ℕ) (number place : ℕ) → readOf sheet .verdict ≡ Refused number place → readOf sheet ≡ refused number place
+
+-- A sheet without fault is at most 550 bytes.
+abbrev pub AtMost550 : Type 0
+AtMost550 = (sheet : List ℕ) → readOf sheet .verdict ≡ Sound → length sheet ≤ 550
+
+-- The answer depends on the first 1,024 bytes alone.
+abbrev pub First1024 : Type 0
+First1024 = (sheet : List ℕ) → readOf (take 1024 sheet) ≡ readOf sheet
+
+-- What `read` ensures leaves one outcome.
+abbrev pub OneOutcome : Type 0
+OneOutcome = (sheet : List ℕ) (a b : Outcome) → a ≡ readOf sheet → b ≡ readOf sheet → a ≡ b
