@@ -49,3 +49,8 @@ module _ {A B : Type 0} (f : A → B) where
   map-set [] i a = refl
   map-set (x ∷ xs) zero a = refl
   map-set (x ∷ xs) (suc i) a = ap (λ (ys : List B). f x ∷ ys) (map-set xs i a)
+
+-- what holds of each element of two lists holds of each of the one after the other
+pub each-append {ℓ} : {A : Type ℓ} (P : A → Type 0) (xs ys : List A) → Each P xs → Each P ys → Each P (xs ++ ys)
+each-append P [] ys first second = second
+each-append P (x ∷ xs) ys first second = (first .0, each-append P xs ys (first .1) second)

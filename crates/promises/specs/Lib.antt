@@ -1,0 +1,3 @@
+-- The page of promises, and the starred numbers of document 01.
+pub mod Promises
+pub mod Starred
