@@ -217,8 +217,9 @@ fn bounds_of(cores: u32, table: Table) -> Analysis
                 bounds[i] = x;
             }
             Found::Nothing => {
+                let place = i + 1;
                 return Analysis {
-                    answer: Answer::NotShown(i + 1),
+                    answer: Answer::NotShown(place),
                     bounds: bounds,
                 };
             }

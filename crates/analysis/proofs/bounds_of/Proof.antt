@@ -1,16 +1,24 @@
 -- bounds_of walks down the table; the bounds found so far are those of the rows above.
-use Prim.Native.Nat.{_-_}
+use Prim.Native.Nat.{ℕ, _-_}
 use native.Mathlib.Omega.{arith}
 use native.Mathlib.Numerals.{add-one}
-use mathlib.Core.Path.{sym, _∙_}
+use mathlib.Core.Path.{sym, ap, _∙_}
+use mathlib.Core.List.{List}
 use Rattle.laws.proofs.Lists.{each-at}
 use Rattle.quantities.specs.Row.{SoundRow, noRow}
+use Rattle.quantities.specs.declared.Ticks.{Ticks}
+use Rattle.windows.specs.declared.Answer.the-variants.{NotShown}
+use Rattle.analysis.specs.declared.Analysis.{Analysis}
 use Rattle.quantities.specs.Table.{rowsOf}
 use Rattle.quantities.proofs.Rows.{length-rows}
 use borrow.Author.Needs.{needs}
 use Rattle.analysis.proofs.SoFar.{SoFar, so-far-start, so-far-next, so-far-stop, so-far-all, found-some, found-none}
 use Rattle.analysis.proofs.bounds_of.Statement.{statement}
 use Rattle.analysis.proofs.bounds_of.Tie as tie
+
+-- the answer that names a place
+abbrev named : ℕ → List Ticks → Analysis
+named place bounds = record { answer = NotShown place; bounds = bounds }
 
 abbrev Inv-loop : tie.InvT-loop
 Inv-loop cores table bounds₀ i₀ bounds i = SoFar cores table bounds i
@@ -49,15 +57,16 @@ array-set-from-bounds c = search needs
 enum-told : tie.Need-enum-told Inv-loop μ-loop
 enum-told c = search needs
 
-add-t13 : tie.Need-add-t13 Inv-loop μ-loop
-add-t13 c = search needs
+add-place : tie.Need-add-place Inv-loop μ-loop
+add-place c = search needs
 
 returns : tie.Need-returns Inv-loop μ-loop
 returns c =
     let s = c .before .before .before .before .before .before in
     let at = c .before .before .before .before .before .loop in
     let none = found-none _ (sym (c .before .before .bound-of .ensures) ∙ c .enum-told .given .1) in
-    rw (add-one (at .i)) (so-far-stop (s .args .cores) (s .args .table) (at .bounds) (at .i) (at .inv) (omega arith) none)
+    ap (λ (place : ℕ). named place (at .bounds)) (add-one (at .i))
+    ∙ so-far-stop (s .args .cores) (s .args .table) (at .bounds) (at .i) (at .inv) (omega arith) none
 
 add-i : tie.Need-add-i Inv-loop μ-loop
 add-i c = search needs
@@ -93,7 +102,7 @@ bounds-of-spec =
     mul-bounds
     array-set-from-bounds
     enum-told
-    add-t13
+    add-place
     returns
     add-i
     loop-less
