@@ -14,6 +14,7 @@ use Rattle.sheet.specs.Records.{rowKind, rowFields, recordOn, sizeOf, is
 use Rattle.sheet.specs.Entries.{entryOf, entriesOf, used, insertedAll, sheetOf, Rising, Different}
 use Rattle.sheet.specs.Reader.{noSheet, newReading, afterRecord, refused, whole, readFrom, readOf}
 use Rattle.sheet.specs.Whole.{OneRecord, joined, entriesOn, coresOn, tickOn, Permitted, WholeSheet, bytesOf, MadeOf}
+use Rattle.sheet.specs.declared.Record.{Record}
 use Rattle.sheet.specs.declared.Entry.{Entry}
 use Rattle.sheet.specs.declared.Sheet.{Sheet}
 use Rattle.sheet.specs.declared.Reading.{Reading}
@@ -23,7 +24,7 @@ use Rattle.sheet.specs.declared.Outcome.{Outcome}
 use Rattle.sheet.proofs.Records.{length-board, length-end}
 use Rattle.sheet.proofs.Entries.{used-below}
 use Rattle.sheet.proofs.Checks.{sound-not-refused}
-use Rattle.sheet.proofs.Reader.{verdictAt, read-refused, read-whole, read-on}
+use Rattle.sheet.proofs.Reader.{verdictAt, behind, read-refused, read-whole, read-on}
 use Rattle.sheet.proofs.Order.{rising-permuted, unused-first, unused-rest}
 use Rattle.sheet.proofs.Sheets.{entries-of-sheet}
 use Rattle.sheet.proofs.Accepted.{Accepted, accepted, accepted-rising, all-permuted, used-permuted}
@@ -119,31 +120,36 @@ unfolding whole
 whole-not-refused o s number place e v =
     sound-not-refused number place (sym v ∙ ap (λ (x : Outcome). x .verdict) e)
 
-from-refused : (limit : ℕ) (reading : Reading) (at : ℕ) (part : List ℕ) (number place : ℕ) → readFrom limit reading at part .verdict ≡ Refused number place
+from-refused : (limit : ℕ) (reading : Reading) (at : ℕ) (part : List ℕ) (number place : ℕ)
+    → readFrom limit reading at part .verdict ≡ Refused number place
     → readFrom limit reading at part ≡ refused number place
 unfolding readFrom
 from-refused zero reading at part number place e = refused-is (refused 11 at) 11 at number place refl e
 from-refused (suc limit) reading at part number place e =
-    by-verdict
-    (from-refused limit (afterRecord reading (recordOn part)) (at + sizeOf (recordOn part)) (drop (sizeOf (recordOn part)) part) number place)
-    (verdictAt at reading part)
-    refl
+    by-verdict (from-refused limit (afterRecord reading one) (at + sizeOf one) (drop (sizeOf one) part) number place) (verdictAt at reading part) refl
   where
+    one : Record
+    one = recordOn part
+
+    now : Outcome
+    now = readFrom (suc limit) reading at part
+
     Later : Type 0
     Later =
-        readFrom limit (afterRecord reading (recordOn part)) (at + sizeOf (recordOn part)) (drop (sizeOf (recordOn part)) part) .verdict ≡ Refused number place
-        → readFrom limit (afterRecord reading (recordOn part)) (at + sizeOf (recordOn part)) (drop (sizeOf (recordOn part)) part) ≡ refused number place
+        behind limit reading at part .verdict ≡ Refused number place → behind limit reading at part ≡ refused number place
 
-    by-end : Later → (b : Bool) → isEnd (recordOn part) ≡ b → verdictAt at reading part ≡ Sound → readFrom (suc limit) reading at part ≡ refused number place
-    by-end later true last s = absurd (whole-not-refused (readFrom (suc limit) reading at part) (reading .sheet) number place (read-whole limit reading at part s last) e)
+    by-end : Later → (b : Bool) → isEnd one ≡ b → verdictAt at reading part ≡ Sound → now ≡ refused number place
+    by-end later true last s =
+        absurd (whole-not-refused now (reading .sheet) number place (read-whole limit reading at part s last) e)
     by-end later false last s =
         let on = read-on limit reading at part s last in
         on ∙ later (ap (λ (x : Outcome). x .verdict) (sym on) ∙ e)
 
-    by-verdict : Later → (v : Verdict) → verdictAt at reading part ≡ v → readFrom (suc limit) reading at part ≡ refused number place
-    by-verdict later Sound s = by-end later (isEnd (recordOn part)) refl s
-    by-verdict later (Refused a b) s = refused-is (readFrom (suc limit) reading at part) a b number place (read-refused limit reading at part a b s) e
+    by-verdict : Later → (v : Verdict) → verdictAt at reading part ≡ v → now ≡ refused number place
+    by-verdict later Sound s = by-end later (isEnd one) refl s
+    by-verdict later (Refused a b) s = refused-is now a b number place (read-refused limit reading at part a b s) e
 
-pub refused-no-table : (sheet : List ℕ) (number place : ℕ) → readOf sheet .verdict ≡ Refused number place → readOf sheet ≡ refused number place
+pub refused-no-table : (sheet : List ℕ) (number place : ℕ)
+    → readOf sheet .verdict ≡ Refused number place → readOf sheet ≡ refused number place
 unfolding readOf
 refused-no-table sheet number place = from-refused (suc (length sheet)) newReading 0 sheet number place

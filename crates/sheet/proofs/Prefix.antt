@@ -26,7 +26,7 @@ use Rattle.sheet.specs.declared.Verdict.the-variants.{Sound, Refused}
 use Rattle.sheet.proofs.Records.{Found, nothing, unknown, cut, board, row, end, found, length-board, length-row, length-end, length-most, on-unknown}
 use Rattle.sheet.proofs.Parts.{on-board, on-row, on-end, field-front, fields-front}
 use Rattle.sheet.proofs.Checks.{sound-not-refused, missing-not-sound, unknown-not-sound, cut-not-sound, board-misplaced, row-misplaced, row-placed, sound-row}
-use Rattle.sheet.proofs.Reader.{verdictAt, Within, sound-within, read-refused, read-whole, read-on}
+use Rattle.sheet.proofs.Reader.{verdictAt, behind, sound-within, read-refused, read-whole, read-on}
 
 -- The record on a part is the one on its first bytes, where these are 17 or more.
 module _ (part : List ℕ) (k : ℕ) (h : 17 ≤ k) (l : k < length part) where
@@ -136,43 +136,56 @@ prefix-read zero other reading at k part st e h m = absurd (omega arith)
 prefix-read (suc limit) zero reading at k part st e h m = absurd (omega arith)
 prefix-read (suc limit) (suc other) reading at k part st e h m =
     by-verdict
-    (prefix-read limit other (afterRecord reading (recordOn part)) (at + sizeOf (recordOn part)) (k - sizeOf (recordOn part)) (drop (sizeOf (recordOn part)) part))
+    (prefix-read limit other (afterRecord reading one) (at + size) (k - size) (drop size part))
     (verdictAt at reading part)
     refl
   where
-    enough : 17 ≤ k
-    enough = omega (arith, st .near, st .few)
+    one : Record
+    one = recordOn part
+
+    size : ℕ
+    size = sizeOf one
+
+    Same : Type 0
+    Same = readFrom (suc limit) reading at part ≡ readFrom (suc other) reading at (take k part)
 
     Later : Type 0
     Later =
-        Steady (afterRecord reading (recordOn part)) (at + sizeOf (recordOn part)) → at + sizeOf (recordOn part) + (k - sizeOf (recordOn part)) ≡ 1024
-        → length (drop (sizeOf (recordOn part)) part) < limit → length (take (k - sizeOf (recordOn part)) (drop (sizeOf (recordOn part)) part)) < other
-        → readFrom limit (afterRecord reading (recordOn part)) (at + sizeOf (recordOn part)) (drop (sizeOf (recordOn part)) part) ≡
-        readFrom other (afterRecord reading (recordOn part)) (at + sizeOf (recordOn part)) (take (k - sizeOf (recordOn part)) (drop (sizeOf (recordOn part)) part))
+        Steady (afterRecord reading one) (at + size) → at + size + (k - size) ≡ 1024
+        → length (drop size part) < limit → length (take (k - size) (drop size part)) < other
+        → behind limit reading at part ≡ readFrom other (afterRecord reading one) (at + size) (take (k - size) (drop size part))
 
-    by-end : Later → (b : Bool) → isEnd (recordOn part) ≡ b → verdictAt at reading part ≡ Sound
-        → readFrom (suc limit) reading at part ≡ readFrom (suc other) reading at (take k part)
+    enough : 17 ≤ k
+    enough = omega (arith, st .near, st .few)
+
+    verdict : verdictAt at reading (take k part) ≡ verdictAt at reading part
+    verdict = verdict-taken at reading part k enough
+
+    on : recordOn (take k part) ≡ one
+    on = on-taken part k enough
+
+    by-end : Later → (b : Bool) → isEnd one ≡ b → verdictAt at reading part ≡ Sound → Same
     by-end later true last s =
         read-whole limit reading at part s last
-        ∙ sym (read-whole other reading at (take k part) (verdict-taken at reading part k enough ∙ s) (ap isEnd (on-taken part k enough) ∙ last))
+        ∙ sym (read-whole other reading at (take k part) (verdict ∙ s) (ap isEnd on ∙ last))
     by-end later false last s =
-        let size = sizeOf (recordOn part) in
-        let w = sound-within at (length part) reading part (recordOn part) (found part) s in
-        let short = length-most (kindOf (recordOn part)) in
+        let w = sound-within at (length part) reading part one (found part) s in
+        let short = length-most (kindOf one) in
         let split : k ≡ size + (k - size) = omega arith in
         let same : drop size (take k part) ≡ take (k - size) (drop size part) = ap (λ (n : ℕ). drop size (take n part)) split ∙ drop-take size (k - size) part in
-        let next = steady-next part reading at (length part) st (recordOn part) (found part) s last in
+        let next = steady-next part reading at (length part) st one (found part) s last in
+        let left = length-drop size part in
+        let taken = length-take (k - size) (drop size part) in
+        let goes = read-on other reading at (take k part) (verdict ∙ s) (ap isEnd on ∙ last) in
         read-on limit reading at part s last
-        ∙ later next (omega arith) (omega (arith, length-drop size part)) (omega (arith, length-drop size part, length-take (k - size) (drop size part), length-take k part))
-        ∙ sym
-        (read-on other reading at (take k part) (verdict-taken at reading part k enough ∙ s) (ap isEnd (on-taken part k enough) ∙ last)
-        ∙ rw (on-taken part k enough, same))
+        ∙ later next (omega arith) (omega arith) (omega (arith, length-take k part))
+        ∙ sym (goes ∙ rw (on, same))
 
-    by-verdict : Later → (v : Verdict) → verdictAt at reading part ≡ v → readFrom (suc limit) reading at part ≡ readFrom (suc other) reading at (take k part)
-    by-verdict later Sound s = by-end later (isEnd (recordOn part)) refl s
+    by-verdict : Later → (v : Verdict) → verdictAt at reading part ≡ v → Same
+    by-verdict later Sound s = by-end later (isEnd one) refl s
     by-verdict later (Refused number place) s =
         read-refused limit reading at part number place s
-        ∙ sym (read-refused other reading at (take k part) number place (verdict-taken at reading part k enough ∙ s))
+        ∙ sym (read-refused other reading at (take k part) number place (verdict ∙ s))
 
 steady-new : Steady newReading 0
 unfolding newReading noSheet boardSheet

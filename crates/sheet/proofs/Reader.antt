@@ -13,12 +13,18 @@ use Rattle.sheet.specs.declared.Record.{Record}
 use Rattle.sheet.specs.declared.Reading.{Reading}
 use Rattle.sheet.specs.declared.Verdict.{Verdict}
 use Rattle.sheet.specs.declared.Verdict.the-variants.{Sound, Refused}
+use Rattle.sheet.specs.declared.Outcome.{Outcome}
 use Rattle.sheet.proofs.Records.{Found, nothing, unknown, cut, board, row, end, found, length-board, length-row, length-end}
 use Rattle.sheet.proofs.Checks.{missing-not-sound, unknown-not-sound, cut-not-sound}
 
 -- the verdict on the record that stands on a part
 abbrev pub verdictAt : ℕ → Reading → List ℕ → Verdict
 verdictAt at reading part = verdictOf (recordChecks at (length part) reading (recordOn part))
+
+-- the answer of a reading that goes on behind the record on a part
+abbrev pub behind : ℕ → Reading → ℕ → List ℕ → Outcome
+behind limit reading at part =
+    readFrom limit (afterRecord reading (recordOn part)) (at + sizeOf (recordOn part)) (drop (sizeOf (recordOn part)) part)
 
 -- One record: it is refused, it is the end, or the reading goes on after it.
 module _ (limit : ℕ) (reading : Reading) (at : ℕ) (part : List ℕ) where
@@ -33,7 +39,7 @@ module _ (limit : ℕ) (reading : Reading) (at : ℕ) (part : List ℕ) where
   read-whole e last = rw (e, last, readFrom)
 
   pub read-on : verdictAt at reading part ≡ Sound → isEnd (recordOn part) ≡ false
-      → readFrom (suc limit) reading at part ≡ readFrom limit (afterRecord reading (recordOn part)) (at + sizeOf (recordOn part)) (drop (sizeOf (recordOn part)) part)
+      → readFrom (suc limit) reading at part ≡ behind limit reading at part
   unfolding readFrom
   read-on e last = rw (e, last, readFrom)
 

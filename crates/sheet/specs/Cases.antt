@@ -1,5 +1,5 @@
 -- The written-out sheets of document 01, and some that are turned away, each read by the definition.
-use Prim.Native.Nat.{ℕ}
+use Prim.Native.Nat.{ℕ, zero, suc}
 use mathlib.Core.Path.{_≡_, refl}
 use mathlib.Core.List.{List, [], _∷_, _++_}
 use lib.ListN.{replicate}
@@ -12,6 +12,7 @@ use Rattle.sheet.specs.Checks.{misplaced, boardChecks, rowChecks, endChe
 use Rattle.sheet.specs.Reader.{noSheet, newReading, afterRecord, refused, whole, readFrom, readOf}
 use Rattle.quantities.specs.Checks.{firstFailing}
 use Rattle.sheet.specs.declared.Entry.{Entry}
+use Rattle.sheet.specs.declared.Verdict.the-variants.{Sound}
 use Rattle.sheet.specs.declared.Outcome.{Outcome}
 
 -- the answer of a sheet, with all that it rests on opened so that it computes
@@ -94,3 +95,29 @@ wrong-count = refl
 byte-after : answer (board ++ first ++ (3 ∷ 1 ∷ 3 ∷ [])) ≡ refused 18 23
 unfolding answer
 byte-after = refl
+
+-- a priority of 0, and one of 1000; a label may repeat, and so may times
+abbrev rowWith : ℕ → ℕ → List ℕ
+rowWith high low = 2 ∷ 0 ∷ 7 ∷ high ∷ low ∷ replicate 12 0
+
+no-priority : answer (board ++ rowWith 0 0) ≡ refused 16 4
+unfolding answer
+no-priority = refl
+
+priority-1000 : answer (board ++ rowWith 0 1 ++ rowWith 3 232) ≡ refused 16 21
+unfolding answer
+priority-1000 = refl
+
+-- so many rows, of priority 33, 32, ..
+abbrev rowsDown : ℕ → List ℕ
+rowsDown zero = []
+rowsDown (suc n) = rowWith 0 (suc n) ++ rowsDown n
+
+-- 32 rows are read, a 33rd is one too many
+rows-32 : answer (board ++ rowsDown 32 ++ (3 ∷ 32 ∷ [])) .verdict ≡ Sound
+unfolding answer
+rows-32 = refl
+
+rows-33 : answer (board ++ rowsDown 33 ++ (3 ∷ 33 ∷ [])) ≡ refused 14 548
+unfolding answer
+rows-33 = refl

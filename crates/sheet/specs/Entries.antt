@@ -47,7 +47,8 @@ unfoldable pub used : ℕ → List Entry → Bool
 used priority [] = false
 used priority (entry ∷ entries) = eqb (entry .priority) priority || used priority entries
 
--- the entries with a new one at its place: where an entry has a larger number, the new one comes first and that entry goes on
+-- the entries with a new one at its place by number: the new one takes the place of the first entry with a larger
+-- number, which goes on in the same way
 unfoldable pub inserted : Entry → List Entry → List Entry
 inserted new [] = new ∷ []
 inserted new (entry ∷ entries) =

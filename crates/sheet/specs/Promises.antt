@@ -12,10 +12,11 @@ use Rattle.sheet.specs.declared.Entry.{Entry}
 use Rattle.sheet.specs.declared.Verdict.the-variants.{Sound, Refused}
 use Rattle.sheet.specs.declared.Outcome.{Outcome}
 
--- A sheet is without fault exactly when it is a board record, rows in any order and an end record, as document 01 asks.
+-- A sheet is without fault exactly when it is a board record, rows in any order and an end record, as the rules ask.
 abbrev pub WholeExactly : Type 0
 WholeExactly =
-    (sheet : List ℕ) → (readOf sheet .verdict ≡ Sound → MadeOf sheet) × (MadeOf sheet → readOf sheet .verdict ≡ Sound)
+    (sheet : List ℕ)
+    → (readOf sheet .verdict ≡ Sound → MadeOf sheet) × (MadeOf sheet → readOf sheet .verdict ≡ Sound)
 
 -- The answer has the board's cores and tick length.
 abbrev pub BoardAnswered : Type 0
@@ -36,18 +37,20 @@ PrioritiesRise = (sheet : List ℕ) → Rising (entriesOf (readOf sheet .sheet))
 -- The table has the rows in that order.
 abbrev pub TableInOrder : Type 0
 TableInOrder =
-    (sheet : List ℕ) → rowsOf (tableOf (readOf sheet .sheet)) ≡ map (λ (entry : Entry). entry .row) (entriesOf (readOf sheet .sheet))
+    (sheet : List ℕ)
+    → rowsOf (tableOf (readOf sheet .sheet)) ≡ map (λ (entry : Entry). entry .row) (entriesOf (readOf sheet .sheet))
 
 -- Two sheets whose row records are permuted give the same answer.
 abbrev pub AnyOrder : Type 0
 AnyOrder =
-    (board : List ℕ) (rows others : List (List ℕ)) (end : List ℕ) → Permuted rows others → WholeSheet board rows end
-    → readOf (bytesOf board others end) ≡ readOf (bytesOf board rows end)
+    (board : List ℕ) (rows others : List (List ℕ)) (end : List ℕ)
+    → Permuted rows others → WholeSheet board rows end → readOf (bytesOf board others end) ≡ readOf (bytesOf board rows end)
 
 -- A refused sheet yields no table.
 abbrev pub NoTableRefused : Type 0
 NoTableRefused =
-    (sheet : List ℕ) (number place : ℕ) → readOf sheet .verdict ≡ Refused number place → readOf sheet ≡ refused number place
+    (sheet : List ℕ) (number place : ℕ)
+    → readOf sheet .verdict ≡ Refused number place → readOf sheet ≡ refused number place
 
 -- A sheet without fault is at most 550 bytes.
 abbrev pub AtMost550 : Type 0

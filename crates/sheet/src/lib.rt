@@ -23,8 +23,8 @@ pub struct RowFields {
     pub t: Micros,
 }
 
-// What stands on the part of a sheet that begins where a record should: no byte, a kind that no record has, a record
-// of this kind that is cut short, or a whole record with its fields.
+// What stands on the part of a sheet that begins where a record should: no byte, a kind that no record has,
+// a record of this kind that is cut short, or a whole record with its fields.
 pub enum Record {
     Missing,
     Unknown,
@@ -55,7 +55,7 @@ pub struct Reading {
     pub sheet: Sheet,
 }
 
-// What is found at a record, or in a whole sheet: nothing wrong, or the number of document 01 with its byte place.
+// What is found at a record or in a whole sheet: nothing wrong, or document 01's number with its byte place.
 pub enum Verdict {
     Sound,
     Refused(u32, usize),
@@ -123,7 +123,7 @@ fn after_record(reading: Reading, found: Record) -> Reading
     }
 }
 
-// The whole sheet's answer: the board with its table in rising priority, or the number and the place of a refusal.
+// The whole sheet's answer: the board with its rows in rising priority, or a refusal's number and place.
 pub fn read(sheet: &[u8]) -> Outcome
     ensures { λ r. ⌜ r ≡ readOf (now (sheet .entry)) ⌝ }
 {

@@ -9,7 +9,7 @@ use quantities::Ticks;
 ghost use mathlib.Core.Path.{_≡_};
 ghost use Rattle.sheet.specs.Entries.{ticksOf, entryOf, boardSheet, entriesOf, used, withEntry, tableOf};
 
-// A time in ticks: whole division by the tick length. No board has a tick length of 0, and it would give no ticks.
+// A time in ticks: whole division by the tick length; a length of 0, which no board has, gives no ticks.
 pub fn to_ticks(time: Micros, tick: Micros) -> Ticks
     ensures { λ r. ⌜ r ≡ ticksOf tick time ⌝ }
 {
@@ -97,10 +97,11 @@ impl Sheet {
         }
         entries[count] = carried;
         let tick = self.tick;
+        let more = count + 1;
         Sheet {
             cores: self.cores,
             tick: tick,
-            count: count + 1,
+            count: more,
             entries: entries,
         }
     }

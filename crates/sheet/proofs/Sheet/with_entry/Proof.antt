@@ -67,8 +67,8 @@ mul-entries-2 c = search needs
 array-set-from-entries-2 : tie.Need-array-set-from-entries-2 Inv-loop μ-loop
 array-set-from-entries-2 c = search needs
 
-add-t18 : tie.Need-add-t18 Inv-loop μ-loop
-add-t18 c = search needs
+add-more : tie.Need-add-more Inv-loop μ-loop
+add-more c = search needs
 
 returns-2 : tie.Need-returns-2 Inv-loop μ-loop
 unfolding withEntry entriesOf
@@ -98,5 +98,5 @@ with-entry-spec =
     loop-again
     mul-entries-2
     array-set-from-entries-2
-    add-t18
+    add-more
     returns-2)
