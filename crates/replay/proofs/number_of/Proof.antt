@@ -1,0 +1,78 @@
+-- number_of answers by cases of the outcome.
+use Rattle.bench.specs.Refusal.{numberOf}
+use Rattle.replay.specs.Format.{outcomeNumber}
+use borrow.Author.Needs.{needs}
+use Rattle.replay.proofs.number_of.Statement.{statement}
+use Rattle.replay.proofs.number_of.Tie as tie
+
+enum-known-outcome : tie.Need-enum-known-outcome
+enum-known-outcome c = search needs
+
+enum-told : tie.Need-enum-told
+enum-told c = search needs
+
+returns : tie.Need-returns
+unfolding outcomeNumber
+returns c = simp (c .enum-told .given .1)
+
+enum-told-2 : tie.Need-enum-told-2
+enum-told-2 c = search needs
+
+enum-told-3 : tie.Need-enum-told-3
+enum-told-3 c = search needs
+
+enum-told-4 : tie.Need-enum-told-4
+enum-told-4 c = search needs
+
+enum-told-5 : tie.Need-enum-told-5
+enum-told-5 c = search needs
+
+enum-told-6 : tie.Need-enum-told-6
+enum-told-6 c = search needs
+
+enum-told-7 : tie.Need-enum-told-7
+enum-told-7 c = search needs
+
+returns-2 : tie.Need-returns-2
+unfolding outcomeNumber numberOf
+returns-2 c = simp (c .before .before .before .outcome .given .1, c .enum-told2 .given .1)
+
+returns-3 : tie.Need-returns-3
+unfolding outcomeNumber numberOf
+returns-3 c = simp (c .before .before .before .outcome .given .1, c .enum-told3 .given .1)
+
+returns-4 : tie.Need-returns-4
+unfolding outcomeNumber numberOf
+returns-4 c = simp (c .before .before .before .outcome .given .1, c .enum-told4 .given .1)
+
+returns-5 : tie.Need-returns-5
+unfolding outcomeNumber numberOf
+returns-5 c = simp (c .before .before .before .outcome .given .1, c .enum-told5 .given .1)
+
+returns-6 : tie.Need-returns-6
+unfolding outcomeNumber numberOf
+returns-6 c = simp (c .before .before .before .outcome .given .1, c .enum-told6 .given .1)
+
+returns-7 : tie.Need-returns-7
+unfolding outcomeNumber numberOf
+returns-7 c = simp (c .before .before .before .outcome .given .1, c .enum-told7 .given .1)
+
+pub number-of-spec : {M : Type 1} → statement M
+number-of-spec =
+    tie.close
+    (tie.spec
+    enum-known-outcome
+    enum-told
+    returns
+    enum-told-2
+    enum-told-3
+    enum-told-4
+    enum-told-5
+    enum-told-6
+    enum-told-7
+    returns-2
+    returns-3
+    returns-4
+    returns-5
+    returns-6
+    returns-7)
