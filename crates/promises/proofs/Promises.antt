@@ -19,6 +19,7 @@ use Rattle.sheet.proofs.Promises.{whole-exactly, each-row-once, priorities-rise
 use Rattle.bench.proofs.Steps.{refused-same}
 use Rattle.running.proofs.Running.{bounds-hold}
 use Rattle.running.proofs.Below.{rows-below}
+use Rattle.running.proofs.Replayed.{replay-in-time}
 use Rattle.promises.specs.Promises.{FaultyListTurnedAway, RefusedCallChangesNothing, Demand1, Demand2, Demand3}
 
 -- the first check that fails is the one that firstFailing finds
@@ -65,4 +66,4 @@ pub demand-2 : Demand2
 demand-2 = record { rising = priorities-rise; in-order = table-in-order; each-once = each-row-once; least = judged-means; only = one-judgement }
 
 pub demand-3 : Demand3
-demand-3 = record { holds = bounds-hold; below = rows-below }
+demand-3 = record { holds = bounds-hold; below = rows-below; in-code = replay-in-time }

@@ -15,6 +15,7 @@ use Rattle.bench.specs.Step.{Step}
 use Rattle.bench.specs.History.{Call, doCall}
 use Rattle.running.specs.Running.{BoundsHold}
 use Rattle.running.specs.Below.{RowsBelow}
+use Rattle.running.specs.Replayed.{ReplayInTime}
 
 -- A row list with a fault is answered by the first check that fails, in the order 1, 2, then 3 to 6 row by row, then 7,
 -- with that check's number and place; and the bounds list stays as it was.
@@ -50,7 +51,8 @@ pub record Demand2 : Type 0 where
   pub only : (cores : ℕ) (rows : List Row) (j k : Judged) → Judgement cores rows j → Judgement cores rows k → j ≡ k
 
 -- Demand 3. The bound holds on a running board: from an empty bench, over any sequence of calls, refused ones included.
--- Rows below make no difference.
+-- Rows below make no difference. And no answer that the replay writes, for any bytes as calls, breaks a bound.
 pub record Demand3 : Type 0 where
   pub holds : BoundsHold
   pub below : RowsBelow
+  pub in-code : ReplayInTime

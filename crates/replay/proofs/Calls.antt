@@ -23,7 +23,7 @@ use Rattle.bench.specs.Step.{Step, emptyBench, openingOf}
 use Rattle.bench.proofs.Open.{opening-sound}
 use Rattle.bench.specs.History.{Call, doCall, callOf, steps}
 use Rattle.replay.specs.declared.Replayed.the-variants.{Done, NotOpened, NotACall, NoRoom}
-use Rattle.replay.specs.Format.{requestIn, answerBytes}
+use Rattle.replay.specs.Format.{requestIn, answerBytes, joined}
 use Rattle.replay.specs.Replay.{Requests, requestsIn, Replay, ending, answered, replayFrom, replayAfter, replay}
 use Rattle.replay.proofs.Format.{requests-stop, requests-next}
 use Rattle.replay.proofs.Writes.{sets-append}
@@ -56,11 +56,6 @@ module _ (calls : List ℕ) (b : Bench) (place at : ℕ) (out : List ℕ) where
   pub all-done : length calls ≤ place → replayRest calls b place at out ≡ record { answer = Done at; out = out }
   unfolding answered requestsIn
   all-done h = rw (drop-of-length-le calls {i = place} h)
-
--- the answers to a history, joined
-abbrev pub joined : List Step → List ℕ
-joined [] = []
-joined (step ∷ rest) = answerBytes step ++ joined rest
 
 -- Where there is room for all of them, the buffer holds the answers of the run of the definition, and no other byte changed.
 pub replay-run : (whole : Bool) (requests : List Request) (b : Bench) (place at : ℕ) (out : List ℕ) → at + length (joined (steps b (map callOf requests))) ≤ length out

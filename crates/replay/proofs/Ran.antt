@@ -17,7 +17,8 @@ use Rattle.bench.specs.History.{callOf, steps}
 use Rattle.bench.proofs.Kept.{opened-empty}
 use Rattle.replay.specs.declared.Replayed.the-variants.{Done}
 use Rattle.replay.specs.Replay.{Requests, requestsIn, Replay, replay, replayAfter, replayFrom}
-use Rattle.replay.proofs.Calls.{joined, replay-run}
+use Rattle.replay.specs.Format.{joined}
+use Rattle.replay.proofs.Calls.{replay-run}
 
 -- the bytes that answer the run of these calls from a bench
 abbrev pub answersOf : Bench → (calls : List ℕ) → List ℕ

@@ -70,3 +70,8 @@ answerOf outcome polls = outcomeNumber outcome ∷ byteOf (outcomePlace outcome)
 
 abbrev pub answerBytes : Step → List ℕ
 answerBytes step = answerOf (step .outcome) (step .finishes)
+
+-- the answers to a history, one after the other
+abbrev pub joined : List Step → List ℕ
+joined [] = []
+joined (step ∷ rest) = answerBytes step ++ joined rest

@@ -12,3 +12,4 @@ pub mod Tests
 pub mod Calls
 pub mod Below
 pub mod Running
+pub mod Replayed

@@ -2,3 +2,4 @@
 pub mod Running
 pub mod Exact
 pub mod Below
+pub mod Replayed
