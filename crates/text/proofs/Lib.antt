@@ -1,0 +1,3 @@
+-- Laws of the text's definitions.
+pub mod Decimal
+pub mod Buffer

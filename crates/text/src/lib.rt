@@ -1,0 +1,2 @@
+//! The text of a sheet's answer, as the program prints it.
+mod put;
