@@ -1,2 +1,3 @@
 //! The text of a sheet's answer, as the program prints it.
+mod lines;
 mod put;
