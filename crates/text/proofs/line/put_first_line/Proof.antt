@@ -4,8 +4,8 @@ use lib.ListN.{length-append}
 use Rattle.text.specs.Lines.{firstLine}
 use Rattle.text.proofs.Buffer.{puts-then}
 use borrow.Author.Needs.{needs}
-use Rattle.text.proofs.lines.put_first_line.Statement.{statement}
-use Rattle.text.proofs.lines.put_first_line.Tie as tie
+use Rattle.text.proofs.line.put_first_line.Statement.{statement}
+use Rattle.text.proofs.line.put_first_line.Tie as tie
 
 slice-aggregate-put-worded : tie.Need-slice-aggregate-put-worded
 slice-aggregate-put-worded c = search needs

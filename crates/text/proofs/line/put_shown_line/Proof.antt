@@ -2,8 +2,8 @@
 use native.Mathlib.Omega.{arith}
 use Rattle.text.specs.Lines.{shownLine}
 use borrow.Author.Needs.{needs}
-use Rattle.text.proofs.lines.put_shown_line.Statement.{statement}
-use Rattle.text.proofs.lines.put_shown_line.Tie as tie
+use Rattle.text.proofs.line.put_shown_line.Statement.{statement}
+use Rattle.text.proofs.line.put_shown_line.Tie as tie
 
 slice-aggregate-put-word : tie.Need-slice-aggregate-put-word
 slice-aggregate-put-word c = search needs

@@ -1,11 +1,11 @@
--- put_not_shown_line lays the last line of a row not shown.
+-- put_refused_line lays the line of a refusal.
 use native.Mathlib.Omega.{arith}
 use lib.ListN.{length-append}
-use Rattle.text.specs.Lines.{notShownLine}
+use Rattle.text.specs.Lines.{refusedLine}
 use Rattle.text.proofs.Buffer.{puts-then}
 use borrow.Author.Needs.{needs}
-use Rattle.text.proofs.lines.put_not_shown_line.Statement.{statement}
-use Rattle.text.proofs.lines.put_not_shown_line.Tie as tie
+use Rattle.text.proofs.line.put_refused_line.Statement.{statement}
+use Rattle.text.proofs.line.put_refused_line.Tie as tie
 
 slice-aggregate-put-worded : tie.Need-slice-aggregate-put-worded
 slice-aggregate-put-worded c = search needs
@@ -29,15 +29,15 @@ same-length : tie.Need-same-length
 same-length c = search needs
 
 returns : tie.Need-returns
-unfolding notShownLine
+unfolding refusedLine
 returns c =
-    let place = c .before .before .before .before .before .before .before .before .before .before .before .before .put-worded .ensures in
-    let label = c .before .before .before .before .before .before .before .put-worded2 .ensures in
+    let number = c .before .before .before .before .before .before .before .before .before .before .before .before .put-worded .ensures in
+    let place = c .before .before .before .before .before .before .before .put-worded2 .ensures in
     let ending = c .before .before .put-word .ensures in
-    (puts-then (puts-then (place .0) (label .0)) ending, simp length-append (omega (arith, simp length-append at (place .1), simp length-append at (label .1))))
+    (puts-then (puts-then (number .0) (place .0)) ending, simp length-append (omega (arith, simp length-append at (number .1), simp length-append at (place .1))))
 
-pub put-not-shown-line-spec : {M : Type 1} → statement M
-put-not-shown-line-spec =
+pub put-refused-line-spec : {M : Type 1} → statement M
+put-refused-line-spec =
     tie.close
     (tie.spec
     slice-aggregate-put-worded

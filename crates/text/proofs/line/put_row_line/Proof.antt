@@ -4,8 +4,8 @@ use lib.ListN.{length-append}
 use Rattle.text.specs.Lines.{rowLine}
 use Rattle.text.proofs.Buffer.{puts-then}
 use borrow.Author.Needs.{needs}
-use Rattle.text.proofs.lines.put_row_line.Statement.{statement}
-use Rattle.text.proofs.lines.put_row_line.Tie as tie
+use Rattle.text.proofs.line.put_row_line.Statement.{statement}
+use Rattle.text.proofs.line.put_row_line.Tie as tie
 
 put-number-requires : tie.Need-put-number-requires
 put-number-requires c κs = search needs

@@ -14,8 +14,8 @@ use Rattle.sheet.specs.declared.Entry.{Entry}
 use Rattle.text.specs.Buffer.{Puts}
 use Rattle.text.specs.Lines.{rowLine, rowLines, lineRoom}
 use Rattle.text.proofs.Buffer.{puts-nothing, puts-then, length-puts}
-use Rattle.text.proofs.lines.put_row_lines.Statement.{statement}
-use Rattle.text.proofs.lines.put_row_lines.Tie as tie
+use Rattle.text.proofs.line.put_row_lines.Statement.{statement}
+use Rattle.text.proofs.line.put_row_lines.Tie as tie
 
 -- The lines of the first i rows lie in the buffer.
 record Lies (before : List ℕ) (at count : ℕ) (entries : List Entry) (bounds : List Ticks) (after : List ℕ) (next i : ℕ) : Type 0 where
