@@ -1,0 +1,2 @@
+-- What the program's reading answers.
+pub mod Reading

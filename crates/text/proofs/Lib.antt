@@ -1,0 +1,5 @@
+-- Laws of the text's definitions.
+pub mod Decimal
+pub mod Buffer
+pub mod Lines
+pub mod Text

@@ -1,0 +1,158 @@
+-- Laws of the text: what it is for each answer, with the counts that the code has.
+use Prim.Native.Nat.{ℕ, suc, _-_, _≤_, _<_}
+use native.Mathlib.Omega.{arith}
+use mathlib.Core.Path.{_≡_, refl, sym, ap, _∙_}
+use mathlib.Core.Logic.{_⊎_, ⊎-elim}
+use mathlib.Core.List.{List, _++_}
+use mathlib.Core.Option.{Option, none, some}
+use lib.ListN.{length}
+use lib.Seq.{length-take-le}
+use borrow.Author.Tests.{lt-ltb, le-ltb}
+use Rattle.quantities.specs.Limits.{rowCapacity}
+use Rattle.quantities.specs.Table.{rowsOf}
+use Rattle.quantities.specs.Checks.{listFault, SoundList}
+use Rattle.quantities.specs.declared.Row.{Row}
+use Rattle.quantities.specs.declared.Table.{Table}
+use Rattle.quantities.specs.declared.Fault.{Fault}
+use Rattle.quantities.proofs.Sound.{sound-list-means}
+use Rattle.quantities.proofs.Rows.{length-rows}
+use Rattle.windows.specs.Answer.{Judged, judged, paperOf}
+use Rattle.windows.specs.Judgement.{AllShown, FirstNotShown}
+use Rattle.windows.specs.declared.Answer.{Answer}
+use Rattle.windows.specs.declared.Answer.the-variants.{Shown, NotShown, Refused}
+use Rattle.windows.proofs.Judgement.{judged-faulty, judged-means}
+use Rattle.analysis.specs.Analysis.{numbers, inArray, analysisOf}
+use Rattle.analysis.specs.declared.Analysis.{Analysis}
+use Rattle.sheet.specs.Entries.{tableOf}
+use Rattle.sheet.specs.Reader.{readOf}
+use Rattle.sheet.specs.declared.Sheet.{Sheet}
+use Rattle.sheet.specs.declared.Outcome.{Outcome}
+use Rattle.sheet.specs.declared.Verdict.the-variants.{Sound, Refused as Unread}
+use Rattle.text.specs.Buffer.{Puts}
+use Rattle.text.specs.Lines.{firstLine, rowLines, shownLine, notShownLine, refusedLine}
+use Rattle.text.specs.Text.{boundLines, labelAt, paperLine, judgedText, sheetText, outcomeText, textOf, textRoom, written, countIn, Printed}
+use Rattle.text.proofs.Buffer.{length-puts}
+use Rattle.text.proofs.Lines.{lines-in-array}
+
+module _ (M : ℕ) (rows : List Row) where
+  -- rows whose answer is no fault passed the checks
+  answered : ((fault : Fault) → judged M rows .answer ≡ Refused fault → ⊥) → SoundList M rows
+  answered sound = go (listFault M rows) refl
+    where
+      go : (found : Option Fault) → listFault M rows ≡ found → SoundList M rows
+      go none q = sound-list-means M rows .0 q
+      go (some fault) q = absurd (sound fault (ap (λ j. j .answer) (judged-faulty M rows fault q)))
+
+  -- all shown: a bound for each of at most 32 rows
+  pub shown-counts : judged M rows .answer ≡ Shown
+      → (length (judged M rows .bounds) ≡ length rows) × (length rows ≤ rowCapacity)
+  shown-counts e =
+      let sound = answered (λ fault q. let z : _≡_ {A = ℕ} 0 1 = cc in omega arith) in
+      ⊎-elim
+      (λ (all : AllShown rows (judged M rows)). (all .each, sound .few-rows))
+      (λ (none : FirstNotShown M rows (judged M rows)). let z : _≡_ {A = ℕ} 0 1 = cc (none .says) in absurd (omega arith))
+      (judged-means M rows sound .ends)
+
+  -- a row not shown: the one behind those with bounds
+  pub not-shown-counts : (place : ℕ) → judged M rows .answer ≡ NotShown place
+      → (place ≡ suc (length (judged M rows .bounds))) × (length (judged M rows .bounds) < rowCapacity)
+  not-shown-counts place e =
+      let sound = answered (λ fault q. let z : _≡_ {A = ℕ} 0 1 = cc in omega arith) in
+      ⊎-elim
+      (λ (all : AllShown rows (judged M rows)). let z : _≡_ {A = ℕ} 0 1 = cc (all .says) in absurd (omega arith))
+      (λ (none : FirstNotShown M rows (judged M rows)).
+      let same : NotShown place ≡ NotShown (suc (length (judged M rows .bounds))) = sym e ∙ none .says in
+      (cc, omega (arith, none .stands, sound .few-rows)))
+      (judged-means M rows sound .ends)
+
+-- What the code has of a sheet: its table, and the analysis of that.
+pub record Analysed (sheet : Sheet) (table : Table) (analysis : Analysis) : Type 0 where
+  pub tabled : table ≡ tableOf sheet
+  pub judges : analysis ≡ analysisOf (judged (sheet .cores) (rowsOf table))
+
+-- the lines that the code puts before the last one, so many of them row lines
+abbrev pub linesUpTo : Sheet → Table → Analysis → ℕ → List ℕ
+linesUpTo sheet table analysis k = firstLine (sheet .cores) (sheet .tick .0) (table .count)
+    ++ rowLines (sheet .entries) (numbers (analysis .bounds)) k
+
+module _ (sheet : Sheet) (table : Table) (analysis : Analysis) (a : Analysed sheet table analysis) where
+  abbrev found : Judged
+  found = judged (sheet .cores) (rowsOf table)
+
+  answer-is : found .answer ≡ analysis .answer
+  unfolding analysisOf
+  answer-is = sym (ap (λ (x : Analysis). x .answer) (a .judges))
+
+  lines-are : boundLines sheet (rowsOf table) (found .bounds) ≡ linesUpTo sheet table analysis (length (found .bounds))
+  unfolding boundLines analysisOf
+  lines-are =
+      rw (length-rows table, ap (λ (x : Analysis). x .bounds) (a .judges), lines-in-array (sheet .entries) (found .bounds) (length (found .bounds))) refl
+
+  text-is : (answer : Answer) → analysis .answer ≡ answer
+      → sheetText sheet ≡ judgedText sheet (rowsOf table) (record { answer = answer; bounds = found .bounds })
+  unfolding sheetText judgedText
+  text-is answer e = rw (← a .tabled, answer-is, e) refl
+
+  pub count-shown : analysis .answer ≡ Shown → table .count ≤ rowCapacity
+  count-shown e = omega (arith, length-rows table, shown-counts (sheet .cores) (rowsOf table) (answer-is ∙ e) .1)
+
+  pub text-shown : analysis .answer ≡ Shown → sheetText sheet ≡ linesUpTo sheet table analysis (table .count) ++ shownLine
+  unfolding judgedText
+  text-shown e =
+      let same : length (found .bounds) ≡ table .count = shown-counts (sheet .cores) (rowsOf table) (answer-is ∙ e) .0 ∙ length-rows table in
+      text-is Shown e ∙ rw (lines-are, same) refl
+
+  pub place-not-shown : (place : ℕ) → analysis .answer ≡ NotShown place → (0 < place) × (place ≤ rowCapacity)
+  place-not-shown place e =
+      let counts = not-shown-counts (sheet .cores) (rowsOf table) place (answer-is ∙ e) in
+      (omega (arith, counts .0), omega (arith, counts .0, counts .1))
+
+  pub text-not-shown : (place : ℕ) → analysis .answer ≡ NotShown place
+      → sheetText sheet ≡ linesUpTo sheet table analysis (place - 1) ++ notShownLine place (labelAt sheet (place - 1))
+  unfolding judgedText
+  text-not-shown place e =
+      let same : length (found .bounds) ≡ place - 1 =
+      omega (arith, not-shown-counts (sheet .cores) (rowsOf table) place (answer-is ∙ e) .0) in
+      text-is (NotShown place) e ∙ rw (lines-are, same) refl
+
+  pub text-refused : (fault : Fault) → analysis .answer ≡ Refused fault → sheetText sheet ≡ paperLine (paperOf (Refused fault))
+  unfolding judgedText
+  text-refused fault e = text-is (Refused fault) e
+
+-- the text by the reader's answer
+module _ (bytes : List ℕ) (outcome : Outcome) (reads : outcome ≡ readOf bytes) where
+  pub text-unread : (number place : ℕ) → outcome .verdict ≡ Unread number place → textOf bytes ≡ refusedLine number place
+  unfolding textOf outcomeText
+  text-unread number place e = ap outcomeText (sym reads) ∙ rw (e, outcomeText) refl
+
+  pub text-read : outcome .verdict ≡ Sound → textOf bytes ≡ sheetText (outcome .sheet)
+  unfolding textOf outcomeText
+  text-read e = ap outcomeText (sym reads) ∙ rw (e, outcomeText) refl
+
+module _ (sheet buffer : List ℕ) where
+  -- a buffer that is too short is left as it is
+  pub printed-nothing : length buffer < textRoom → Printed sheet buffer buffer 0
+  unfolding written countIn
+  printed-nothing h =
+      record {
+        holds = rw (lt-ltb (length buffer) textRoom h, written) refl;
+        counts = rw (lt-ltb (length buffer) textRoom h, countIn) refl;
+        enough = λ k. absurd (omega arith);
+        within = omega arith;
+        part = refl;
+      }
+
+  -- one with room enough has the text at its front
+  pub printed : (after : List ℕ) (count : ℕ) → textRoom ≤ length buffer → Puts buffer 0 (textOf sheet) after count
+      → length (textOf sheet) ≤ textRoom → Printed sheet buffer after count
+  unfolding written countIn
+  printed after count h p short =
+      let kept = length-puts p in
+      let l : count ≤ length after = omega (arith, p .ends) in
+      record {
+        holds = rw (le-ltb (length buffer) textRoom h, written) (p .lies);
+        counts = rw (le-ltb (length buffer) textRoom h, countIn) (omega (arith, p .ends));
+        enough = λ k. short;
+        within = l;
+        part = sym (length-take-le count after l);
+      }
