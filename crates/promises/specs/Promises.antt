@@ -1,44 +1,88 @@
 -- The three demands. Each type is proved under its name in proofs/Promises.antt, of the definitions that the contracts cite.
-use Prim.Native.Nat.{ℕ}
+use Prim.Native.Nat.{ℕ, _≤_, _<_}
 use mathlib.Core.Path.{_≡_}
 use mathlib.Core.List.{List, [], _++_}
-use lib.ListN.{length}
+use mathlib.Core.Option.{some}
+use lib.ListN.{length, take, drop}
 use Rattle.quantities.specs.declared.Row.{Row}
+use Rattle.quantities.specs.declared.Table.{Table}
+use Rattle.quantities.specs.Table.{rowsOf}
 use Rattle.quantities.specs.Checks.{Check, listChecks, roomChecks, FirstFailing, SoundList}
 use Rattle.windows.specs.Answer.{Judged, judged, judgedInto, written, Paper, paperOf}
 use Rattle.windows.specs.Judgement.{Judgement}
 use Rattle.sheet.specs.Promises.{WholeExactly, EachRowOnce, PrioritiesRise, TableInOrder, NoTableRefused}
 use Rattle.bench.specs.declared.Bench.{Bench}
 use Rattle.bench.specs.declared.Refusal.{Refusal}
-use Rattle.bench.specs.declared.Outcome.the-variants.{Refused}
-use Rattle.bench.specs.Step.{Step}
-use Rattle.bench.specs.History.{Call, doCall}
+use Rattle.bench.specs.declared.Outcome.the-variants.{Taken, Refused}
+use Rattle.bench.specs.Record.{lastInstant}
+use Rattle.bench.specs.Refusal.{firstRefusal, releaseTests, tickTests, outcomeOf}
+use Rattle.bench.specs.Step.{emptyBench, opened, release, tick}
+use Rattle.bench.specs.History.{Call, doCall, after}
 use Rattle.running.specs.Running.{BoundsHold}
 use Rattle.running.specs.Below.{RowsBelow}
 use Rattle.running.specs.Replayed.{ReplayInTime}
 
--- A row list with a fault is answered by the first check that fails, in the order 1, 2, then 3 to 6 row by row, then 7,
--- with that check's number and place; and the bounds list stays as it was.
+-- A row list with a fault is answered by the first check that fails, in the order 1, 2, then 3 to 6 row by row, with that
+-- check's number and place, and no bounds.
 abbrev pub FaultyListTurnedAway : Type 0
 FaultyListTurnedAway =
+    (cores : ℕ) (rows : List Row) (one : Check) → FirstFailing (listChecks cores rows) one
+    → (paperOf (judged cores rows .answer) ≡ record { number = one .number; place = one .place })
+    × (judged cores rows .bounds ≡ [])
+
+-- The same where the bounds go into a list, with 7 after the rows' checks; and that list stays as it was.
+abbrev pub LentListLeftAlone : Type 0
+LentListLeftAlone =
     (cores : ℕ) (rows : List Row) (entries : List ℕ) (one : Check)
     → FirstFailing (listChecks cores rows ++ roomChecks (length entries) rows) one
     → (paperOf (judgedInto cores (length entries) rows .answer) ≡ record { number = one .number; place = one .place })
     × (written (judgedInto cores (length entries) rows) entries ≡ entries)
 
--- A call on a bench that is refused changes nothing, and no poll ends in it.
+-- A sound list with an entry for each row is answered as it is without such a list: 7 is not given to it.
+abbrev pub RoomEnough : Type 0
+RoomEnough =
+    (cores entries : ℕ) (rows : List Row) → SoundList cores rows → length rows ≤ entries
+    → judgedInto cores entries rows ≡ judged cores rows
+
+-- Then the first entries hold the bounds, and every later entry is as it was.
+abbrev pub BoundsWritten : Type 0
+BoundsWritten =
+    (j : Judged) (entries : List ℕ)
+    → (take (length (j .bounds)) (written j entries) ≡ j .bounds)
+    × (drop (length (j .bounds)) (written j entries) ≡ drop (length (j .bounds)) entries)
+
+-- A call on a bench is refused by the first of its tests that fails, and taken where none does.
+abbrev pub CallsTested : Type 0
+CallsTested =
+    (b : Bench) → ((place demand : ℕ) → release b place demand .outcome ≡ outcomeOf (firstRefusal (releaseTests b place demand)))
+    × (tick b .outcome ≡ outcomeOf (firstRefusal (tickTests b)))
+
+-- A call that is refused changes nothing, and no poll ends in it.
 abbrev pub RefusedCallChangesNothing : Type 0
 RefusedCallChangesNothing =
     (b : Bench) (call : Call) (why : Refusal) → doCall b call .outcome ≡ Refused why
     → doCall b call ≡ record { outcome = Refused why; finishes = []; bench = b }
 
--- Demand 1. Every sheet, row list and bench call is taken; a faulty one is turned away by number and place, in the fixed
--- order of checks, and every list or bench then holds exactly what the rules say.
+-- A bench is opened, empty, for each table that passes checks 1 to 6, and for no other.
+abbrev pub OpenedForSound : Type 0
+OpenedForSound =
+    (cores : ℕ) (table : Table)
+    → (SoundList cores (rowsOf table) → opened cores table ≡ some (emptyBench cores table))
+    × ((b : Bench) → opened cores table ≡ some b → SoundList cores (rowsOf table))
+
+-- Demand 1. Every sheet, row list and bench call is answered; a faulty one is turned away by number and place, in the fixed
+-- order of checks (for a sheet's records that of `recordChecks`, by which `readOf` goes), and every list or bench then holds
+-- exactly what the rules say.
 pub record Demand1 : Type 0 where
   pub sheets : WholeExactly
   pub no-table : NoTableRefused
   pub lists : FaultyListTurnedAway
-  pub calls : RefusedCallChangesNothing
+  pub lent-lists : LentListLeftAlone
+  pub room : RoomEnough
+  pub entries : BoundsWritten
+  pub openings : OpenedForSound
+  pub calls : CallsTested
+  pub refused-calls : RefusedCallChangesNothing
 
 -- Demand 2. Rows stand in rising priority number, each row of the sheet once. The bound of a row is the least window from C
 -- to D that passes for every permitted choice of carry-in rows; the first row with none is named, it and those below get no
@@ -50,9 +94,16 @@ pub record Demand2 : Type 0 where
   pub least : (cores : ℕ) (rows : List Row) → SoundList cores rows → Judgement cores rows (judged cores rows)
   pub only : (cores : ℕ) (rows : List Row) (j k : Judged) → Judgement cores rows j → Judgement cores rows k → j ≡ k
 
+-- A board that was opened runs on: until its clock ends, every tick is taken.
+abbrev pub TicksTaken : Type 0
+TicksTaken =
+    (cores : ℕ) (table : Table) (start : Bench) → opened cores table ≡ some start → (calls : List Call)
+    → after start calls .now .0 < lastInstant → tick (after start calls) .outcome ≡ Taken
+
 -- Demand 3. The bound holds on a running board: from an empty bench, over any sequence of calls, refused ones included.
 -- Rows below make no difference. And no answer that the replay writes, for any bytes as calls, breaks a bound.
 pub record Demand3 : Type 0 where
   pub holds : BoundsHold
+  pub runs : TicksTaken
   pub below : RowsBelow
   pub in-code : ReplayInTime
