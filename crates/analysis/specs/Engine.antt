@@ -30,7 +30,7 @@ pub record Ready (cores : ℕ) (table : Table) (bounds : List Ticks) (k : ℕ) :
   pub within : k ≤ table .count
   pub range : Each InRange (above table bounds k)
 
--- The most that rows can take with each number of carriers up to `carriers`, when one row more comes with this load.
+-- The most that the rows take with m carriers, when one row more comes with this load; `mosts` has it for the rows so far.
 unfoldable pub raisedAt : List ℕ → (without carrying : ℕ) → ℕ → ℕ
 raisedAt mosts without carrying zero = without + getD mosts 0 0
 raisedAt mosts without carrying (suc m) = max (without + getD mosts (suc m) 0) (carrying + getD mosts m 0)

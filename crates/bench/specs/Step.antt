@@ -33,7 +33,7 @@ emptyBench cores table =
 unfoldable pub noBench : Bench
 noBench = emptyBench 0 emptyTable
 
--- An opening: the fault that checks 1 to 6 find, or the empty bench of the table.
+-- An opening: no bench where checks 1 to 6 find a fault, else the empty bench of the table.
 unfoldable pub openedAfter : Option Fault → (cores : ℕ) → Table → Option Bench
 openedAfter (some fault) cores table = none
 openedAfter none cores table = some (emptyBench cores table)

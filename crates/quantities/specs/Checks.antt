@@ -24,7 +24,7 @@ pub record Check : Type 0 where
 abbrev pub check : ℕ → ℕ → Bool → Check
 check number place fails = record { number = number; place = place; fails = fails }
 
--- the checks of the row at a place
+-- the checks of the row at a place; 3 speaks of C itself
 unfoldable pub rowChecks : ℕ → Row → List Check
 rowChecks place row =
     check 3 place (eqb (row .c .0) 0)

@@ -1,3 +1,4 @@
+-- Limits, rows, tables and the checks of a list.
 pub mod Limits
 pub mod Row
 pub mod Table

@@ -69,7 +69,7 @@ has-bounds = refl
 abbrev pub third-ends : Finish
 third-ends = record { place = 3; response = record { 0 = 12 } }
 
--- In the next tick the third row ends its poll, exactly at its bound. No smaller bound holds for it.
+-- In the next tick the third row ends its poll, exactly at its bound. The bound 11 does not hold for it.
 pub met-exactly : (tick (after start calls) .finishes ≡ third-ends ∷ []) × (Holds start calls 3 11 → ⊥)
 unfolding rowsOf rowChecks rowsChecks listChecks firstFailing faultFrom listFault lastBroken rowBroken rowsBroken isFault broken firstRefusal tooSoon releaseTests tickTests unit units less worked ends since finishOf finished emptyBench unless started release served moved taken tick after
 met-exactly = (refl, λ holds. let late : 11 < 11 = holds .over-in-time (omega arith) in omega arith)

@@ -40,7 +40,7 @@ TableInOrder =
     (sheet : List ℕ)
     → rowsOf (tableOf (readOf sheet .sheet)) ≡ map (λ (entry : Entry). entry .row) (entriesOf (readOf sheet .sheet))
 
--- Two sheets whose row records are permuted give the same answer.
+-- Permuting the row records of a sheet without fault leaves its answer the same.
 abbrev pub AnyOrder : Type 0
 AnyOrder =
     (board : List ℕ) (rows others : List (List ℕ)) (end : List ℕ)

@@ -11,7 +11,7 @@ use Rattle.windows.specs.Least.{least, IsLeast, NoneIn}
 unfoldable pub window : (M own top : ℕ) → List Bounded → Option ℕ
 window M own top above = least (passes M own above) own top
 
--- the bound of a row: its least window from C to D
+-- the bound of a row: its least window from C to D that passes
 abbrev pub boundOf : ℕ → List Bounded → Row → Option ℕ
 boundOf M above row = window M (cost row) (deadline row) above
 

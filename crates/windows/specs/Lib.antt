@@ -1,3 +1,4 @@
+-- The rules of a row list: windows, choices, bounds, the answer, and the starred numbers.
 pub mod Window
 pub mod Choice
 pub mod Least

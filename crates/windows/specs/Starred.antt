@@ -12,7 +12,7 @@ use Rattle.windows.specs.Window.{plain, carry, limit, interference}
 use Rattle.windows.specs.Choice.{most, passes}
 use Rattle.windows.specs.Least.{firstOf, least}
 use Rattle.windows.specs.Bound.{window, boundsBelow}
-use Rattle.windows.specs.Answer.{Judged, verdict, judgedAfter, judged, judgedInto, written}
+use Rattle.windows.specs.Answer.{Judged, verdict, judgedAfter, judged, judgedInto, written, paperOf}
 
 -- answers as document 01 writes them down
 abbrev shown : List ℕ → Judged
@@ -40,6 +40,7 @@ claims =
     ∷ (judged 2 (rowOf 2 5 5 ∷ rowOf 3 8 8 ∷ rowOf 2 4 10 ∷ []) ≡ shown (2 ∷ 3 ∷ 4 ∷ []))
     ∷ (judged 2 (rowOf 2 5 5 ∷ rowOf 3 8 8 ∷ rowOf 2 4 10 ∷ rowOf 3 20 20 ∷ []) ≡ shown (2 ∷ 3 ∷ 4 ∷ 7 ∷ []))
     ∷ (judged 2 (rowOf 2 5 5 ∷ rowOf 3 8 8 ∷ rowOf 2 3 10 ∷ []) ≡ not-shown 3 (2 ∷ 3 ∷ []))
+    ∷ (paperOf (judged 2 (rowOf 2 5 5 ∷ rowOf 3 8 8 ∷ rowOf 2 3 10 ∷ []) .answer) ≡ record { number = 8; place = 3 })
     ∷ (written (judgedInto 2 4 (rowOf 2 5 5 ∷ rowOf 3 8 8 ∷ rowOf 2 3 10 ∷ [])) (90 ∷ 91 ∷ 92 ∷ 93 ∷ [])
     ≡ 2 ∷ 3 ∷ 92 ∷ 93 ∷ [])
     ∷ (judged 1 (rowOf 1 4 4 ∷ rowOf 2 6 6 ∷ rowOf 5 12 12 ∷ []) ≡ shown (1 ∷ 3 ∷ 12 ∷ []))
@@ -58,6 +59,6 @@ _&_ : {A B : Type 0} → A → B → A × B
 a & b = (a, b)
 
 pub starred : Each (λ claim. claim) claims
-unfolding plain carry limit interference most passes firstOf least window boundsBelow verdict judgedAfter judged judgedInto written rowChecks rowsChecks listChecks roomChecks firstFailing faultFrom listFault lentFault
+unfolding plain carry limit interference most passes firstOf least window boundsBelow verdict judgedAfter judged judgedInto written paperOf rowChecks rowsChecks listChecks roomChecks firstFailing faultFrom listFault lentFault
 starred =
-    refl & refl & refl & refl & refl & refl & refl & refl & refl & refl & refl & refl & refl & refl & refl & refl & refl & refl & refl & refl & tt
+    refl & refl & refl & refl & refl & refl & refl & refl & refl & refl & refl & refl & refl & refl & refl & refl & refl & refl & refl & refl & refl & tt

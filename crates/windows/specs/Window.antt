@@ -6,7 +6,8 @@ unfoldable pub plain : (c t x : ℕ) → ℕ
 plain c t x = x / t * c + min (x % t) c
 
 -- With carry-in: the same for a row whose bound is r, a poll of which began before the window.
--- Both differences stop at 0, as document 01 says of them.
+-- The differences x − C and (y mod T) − (T − R) stop at 0, as document 01 says of them; T − R and C − 1 are not
+-- negative for a row that passed the checks.
 unfoldable pub carry : (c t r x : ℕ) → ℕ
 carry c t r x =
     let y = x - c in

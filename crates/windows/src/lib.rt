@@ -1,4 +1,4 @@
-//! The analysis of a row list: the window formulas for one row above, and the answer to a list.
+//! The window formulas for one row above, and the type of the answer to a list.
 ghost use mathlib.Core.Path.{_≡_};
 ghost use Prim.Native.Nat.{_≤_, _<_};
 ghost use Rattle.quantities.specs.Row.{cost, gap};
@@ -7,6 +7,7 @@ use quantities::Fault;
 use quantities::Row;
 use quantities::Ticks;
 
+// The answer to a row list: every row has its bound, the row at a place has none, or the list has a fault.
 pub enum Answer {
     Shown,
     NotShown(usize),

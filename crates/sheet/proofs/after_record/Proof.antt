@@ -1,3 +1,4 @@
+-- after_record answers the reading after a record.
 use denote.Enum.Declared.{tagOf}
 use types.Run.{OneOf, miss}
 use mathlib.Core.Path.{_≡_, refl, sym}

@@ -1,3 +1,4 @@
+-- is_end tells an end record from the others.
 use denote.Enum.Declared.{tagOf}
 use types.Run.{OneOf, miss}
 use mathlib.Core.Path.{_≡_, refl, sym}
