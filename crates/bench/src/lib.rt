@@ -1,19 +1,23 @@
 //! The bench of document 01: a board run tick by tick. Its types and its steps by value.
-ghost use mathlib.Core.Path.{_≡_};
-ghost use Prim.Native.Nat.{_+_, _-_, _≤_, _<_};
-ghost use Rattle.quantities.specs.Limits.{rowCapacity};
-ghost use mathlib.Core.List.{[]};
-ghost use Rattle.bench.specs.Record.{lastInstant, rows, lastBroken, rowBroken, rowsBroken, broken};
-ghost use Rattle.bench.specs.Refusal.{outcomeOf, firstRefusal, releaseTests, tickTests, tooSoon};
-ghost use Rattle.bench.specs.Serving.{since, turnOf};
-ghost use Rattle.bench.specs.Ended.{finishesOf, noted};
-ghost use Rattle.bench.specs.History.{doCall, callOf};
-ghost use Rattle.bench.specs.Step.{emptyBench, noBench, openingOf, releasedOf, tickedOf, release, tick, taken};
+use checks::rows_broken;
+use checks::too_soon;
 use quantities::Checked;
 use quantities::Instant;
-use quantities::Row;
 use quantities::Table;
 use quantities::Ticks;
+use tick::serve;
+ghost use mathlib.Core.Path.{_≡_};
+ghost use mathlib.Core.List.{[]};
+ghost use Prim.Native.Nat.{_<_};
+ghost use Rattle.quantities.specs.Limits.{rowCapacity};
+ghost use Rattle.bench.specs.Record.{lastInstant, broken};
+ghost use Rattle.bench.specs.Refusal.{outcomeOf, firstRefusal, releaseTests, tickTests};
+ghost use Rattle.bench.specs.Ended.{finishesOf, noted};
+ghost use Rattle.bench.specs.History.{doCall, callOf};
+ghost use Rattle.bench.specs.Step.{emptyBench, noBench, openingOf, releasedOf, tickedOf, release, tick};
+
+mod checks;
+mod tick;
 
 // When a row was last released.
 pub enum Last {
@@ -96,113 +100,6 @@ struct Turn {
     ends: bool,
 }
 
-// Whether a last release is after the present instant, or there is work and no release.
-fn last_broken(now: Instant, last: Last, left: Ticks) -> bool
-    ensures { λ r. ⌜ r ≡ lastBroken (now .0) last (left .0) ⌝ }
-{
-    match last {
-        Last::Never => 0 < left.0,
-        Last::At(at) => now.0 < at.0,
-    }
-}
-
-// Whether a row's state is none that a run makes.
-fn row_broken(now: Instant, row: Row, state: RowState) -> bool
-    ensures { λ r. ⌜ r ≡ rowBroken (now .0) row state ⌝ }
-{
-    let last = state.last;
-    if last_broken(now, last, state.left) {
-        return true;
-    }
-    if row.c.0 < state.demand.0 {
-        return true;
-    }
-    state.demand.0 < state.left.0
-}
-
-// Whether one of the rows has a state that no run makes.
-fn rows_broken(b: Bench) -> bool
-    requires { ⌜ b .table .count ≤ rowCapacity ⌝ }
-    ensures { λ r. ⌜ r ≡ rowsBroken (b .now .0) (rows b) (b .states) ⌝ }
-{
-    let table = b.table;
-    let mut i: usize = 0;
-    while i < table.count {
-        let row = table.rows[i];
-        let state = b.states[i];
-        if row_broken(b.now, row, state) {
-            return true;
-        }
-        i += 1;
-    }
-    false
-}
-
-// Whether a row with this gap was released fewer than that many ticks ago.
-fn too_soon(now: Instant, gap: Ticks, last: Last) -> bool
-    ensures { λ r. ⌜ r ≡ tooSoon (now .0) (gap .0) last ⌝ }
-{
-    match last {
-        Last::Never => false,
-        Last::At(at) => {
-            if now.0 < at.0 {
-                return 0 < gap.0;
-            }
-            now.0 - at.0 < gap.0
-        }
-    }
-}
-
-// The ticks from a last release to an instant.
-fn since(instant: Instant, last: Last) -> Ticks
-    ensures { λ r. ⌜ r ≡ record { 0 = since (instant .0) last } ⌝ }
-{
-    match last {
-        Last::Never => Ticks(0),
-        Last::At(at) => {
-            if instant.0 < at.0 {
-                return Ticks(0);
-            }
-            Ticks(instant.0 - at.0)
-        }
-    }
-}
-
-// One row's part in a tick when so many cores are free.
-fn serve_row(state: RowState, free: u32) -> Turn
-    ensures { λ r. ⌜ r ≡ turnOf free state ⌝ }
-{
-    let demand = state.demand.0;
-    let left = state.left.0;
-    if free == 0 {
-        return Turn {
-            state: state,
-            free: free,
-            ends: false,
-        };
-    }
-    if left == 0 {
-        return Turn {
-            state: state,
-            free: free,
-            ends: false,
-        };
-    }
-    let last = state.last;
-    let rest = left - 1;
-    let next = RowState {
-        last: last,
-        demand: Ticks(demand),
-        left: Ticks(rest),
-    };
-    let cores = free - 1;
-    Turn {
-        state: next,
-        free: cores,
-        ends: left == 1,
-    }
-}
-
 impl Finishes {
     // The list of no polls.
     fn none() -> Finishes
@@ -230,45 +127,6 @@ impl Finishes {
             self.count = count + 1;
         }
         self
-    }
-}
-
-// What a tick that is not refused does.
-fn serve(b: Bench) -> Ticked
-    requires { ⌜ (b .table .count ≤ rowCapacity) × (b .now .0 < lastInstant) ⌝ }
-    ensures { λ r. ⌜ r ≡ tickedOf (taken b) ⌝ }
-{
-    let end = Instant(b.now.0 + 1);
-    let table = b.table;
-    let mut states = b.states;
-    let mut free = b.cores;
-    let mut finishes = Finishes::none();
-    let mut i: usize = 0;
-    while i < table.count {
-        let state = states[i];
-        let turn = serve_row(state, free);
-        let next = turn.state;
-        states[i] = next;
-        free = turn.free;
-        let last = state.last;
-        let response = since(end, last);
-        let poll = Finish {
-            place: i + 1,
-            response: response,
-        };
-        finishes = finishes.noted(turn.ends, poll);
-        i += 1;
-    }
-    let bench = Bench {
-        cores: b.cores,
-        table: table,
-        now: end,
-        states: states,
-    };
-    Ticked {
-        outcome: Outcome::Taken,
-        finishes: finishes,
-        bench: bench,
     }
 }
 

@@ -7,8 +7,8 @@ use lib.ListN.{length-map, getD}
 use Rattle.bench.specs.declared.Finish.{Finish}
 use Rattle.bench.specs.Serving.{finishOf}
 use Rattle.bench.proofs.Turns.{Serves, serves-first, serves-next, serves-last}
-use Rattle.bench.proofs.serve.Statement.{statement}
-use Rattle.bench.proofs.serve.Tie as tie
+use Rattle.bench.proofs.tick.serve.Statement.{statement}
+use Rattle.bench.proofs.tick.serve.Tie as tie
 
 abbrev Inv-loop : tie.InvT-loop
 Inv-loop b end table states₀ free₀ finishes₀ i₀ states free finishes i = Serves b states free finishes i

@@ -6,8 +6,8 @@ use borrow.Author.Needs.{needs}
 use lib.ListN.{length, drop, length-map}
 use Rattle.bench.specs.Record.{rows, rowsBroken}
 use Rattle.bench.proofs.Record.{rows-broken-here, rows-broken-below, rows-broken-end}
-use Rattle.bench.proofs.rows_broken.Statement.{statement}
-use Rattle.bench.proofs.rows_broken.Tie as tie
+use Rattle.bench.proofs.checks.rows_broken.Statement.{statement}
+use Rattle.bench.proofs.checks.rows_broken.Tie as tie
 
 abbrev Inv-loop : tie.InvT-loop
 Inv-loop b table i₀ i =

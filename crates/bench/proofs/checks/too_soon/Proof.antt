@@ -2,8 +2,8 @@
 use borrow.Author.Needs.{needs}
 use Rattle.bench.specs.Refusal.{tooSoon}
 use Rattle.bench.proofs.Rows.{too-soon-later}
-use Rattle.bench.proofs.too_soon.Statement.{statement}
-use Rattle.bench.proofs.too_soon.Tie as tie
+use Rattle.bench.proofs.checks.too_soon.Statement.{statement}
+use Rattle.bench.proofs.checks.too_soon.Tie as tie
 
 enum-told : tie.Need-enum-told
 enum-told c = search needs

@@ -3,8 +3,8 @@ use mathlib.Core.Path.{sym, ap}
 use borrow.Author.Needs.{needs}
 use Rattle.bench.specs.Serving.{since}
 use Rattle.bench.proofs.Rows.{since-later}
-use Rattle.bench.proofs.since.Statement.{statement}
-use Rattle.bench.proofs.since.Tie as tie
+use Rattle.bench.proofs.tick.since.Statement.{statement}
+use Rattle.bench.proofs.tick.since.Tie as tie
 
 enum-told : tie.Need-enum-told
 enum-told c = search needs

@@ -3,8 +3,8 @@ use mathlib.Core.Path.{sym, _∙_}
 use borrow.Author.Needs.{needs}
 use borrow.Author.Tests.{lt-ltb, le-ltb}
 use Rattle.bench.specs.Record.{rowBroken}
-use Rattle.bench.proofs.row_broken.Statement.{statement}
-use Rattle.bench.proofs.row_broken.Tie as tie
+use Rattle.bench.proofs.checks.row_broken.Statement.{statement}
+use Rattle.bench.proofs.checks.row_broken.Tie as tie
 
 last-broken-requires : tie.Need-last-broken-requires
 last-broken-requires c κs = search needs

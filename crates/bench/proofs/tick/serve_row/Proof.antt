@@ -3,8 +3,8 @@ use mathlib.Core.Path.{sym}
 use native.Mathlib.Omega.{arith}
 use borrow.Author.Needs.{needs}
 use Rattle.bench.proofs.Rows.{turn-no-core, turn-no-work, turn-one}
-use Rattle.bench.proofs.serve_row.Statement.{statement}
-use Rattle.bench.proofs.serve_row.Tie as tie
+use Rattle.bench.proofs.tick.serve_row.Statement.{statement}
+use Rattle.bench.proofs.tick.serve_row.Tie as tie
 
 returns : tie.Need-returns
 returns c = let a = c .before .args in sym (turn-no-core (a .free) (a .state) (c .if1 .taken))

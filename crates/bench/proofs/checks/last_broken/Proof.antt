@@ -1,8 +1,8 @@
 -- last_broken answers by cases of the last release.
 use borrow.Author.Needs.{needs}
 use Rattle.bench.specs.Record.{lastBroken}
-use Rattle.bench.proofs.last_broken.Statement.{statement}
-use Rattle.bench.proofs.last_broken.Tie as tie
+use Rattle.bench.proofs.checks.last_broken.Statement.{statement}
+use Rattle.bench.proofs.checks.last_broken.Tie as tie
 
 enum-told : tie.Need-enum-told
 enum-told c = search needs
