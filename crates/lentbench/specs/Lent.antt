@@ -1,6 +1,9 @@
 -- What a call on a lent bench leaves and answers, in the words of the bench's own steps.
+use Prim.Native.Nat.{ℕ, zero, suc}
 use mathlib.Core.Path.{_≡_}
+use mathlib.Core.List.{List, [], _∷_}
 use Rattle.bench.specs.Ended.{finishesOf}
+use Rattle.bench.specs.History.{Call, ticks}
 use Rattle.bench.specs.Step.{Step}
 use Rattle.bench.specs.declared.Bench.{Bench}
 use Rattle.bench.specs.declared.Outcome.{Outcome}
@@ -19,3 +22,8 @@ tickAnswerOf step = record { outcome = step .outcome; finishes = finishesOf (ste
 pub record LentTick (step : Step) (left : Bench) (answer : TickAnswer) : Type 0 where
   pub leaves : left ≡ step .bench
   pub answers : answer ≡ tickAnswerOf step
+
+-- the history of so many ticks
+unfoldable pub ticksFor : ℕ → List Call
+ticksFor zero = []
+ticksFor (suc n) = ticks ∷ ticksFor n

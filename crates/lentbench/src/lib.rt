@@ -1,6 +1,8 @@
 //! The caller's loop lends the bench itself to each call: release and tick on a lent bench, over the steps by value.
+ghost use mathlib.Core.Path.{_≡_};
+ghost use Rattle.bench.specs.History.{after};
 ghost use Rattle.bench.specs.Step.{release, tick};
-ghost use Rattle.lentbench.specs.Lent.{LentRelease, LentTick};
+ghost use Rattle.lentbench.specs.Lent.{LentRelease, LentTick, ticksFor};
 use bench::Bench;
 use bench::Finishes;
 use bench::Outcome;
@@ -30,5 +32,16 @@ pub fn tick(b: &mut Bench) -> TickAnswer
     TickAnswer {
         outcome: ticked.outcome,
         finishes: ticked.finishes,
+    }
+}
+
+// The bench runs for so many ticks: the caller's loop lends it to one tick after another.
+pub fn run(b: &mut Bench, ticks: u64)
+    ensures { λ _. ⌜ now (b .exit) ≡ after (now (b .entry)) (ticksFor ticks) ⌝ }
+{
+    let mut i: u64 = 0;
+    while i < ticks {
+        tick(b);
+        i += 1;
     }
 }
