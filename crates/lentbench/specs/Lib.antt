@@ -1,0 +1,2 @@
+-- What a call on a lent bench leaves and answers.
+pub mod Lent
