@@ -3,7 +3,7 @@ use Prim.Native.Nat.{ℕ, zero, suc, _+_, _-_, _*_, _≤_, _<_, min, max}
 use mathlib.Core.Path.{_≡_}
 use mathlib.Core.Option.{Option, none, some}
 use mathlib.Core.List.{List}
-use lib.ListN.{getD}
+use lib.ListN.{length, getD}
 use Rattle.laws.specs.Each.{Each}
 use Rattle.quantities.specs.Limits.{rowCapacity, coreLimit, largestGap}
 use Rattle.quantities.specs.Row.{gap, SoundRow}
@@ -37,10 +37,16 @@ raisedAt mosts without carrying (suc m) = max (without + getD mosts (suc m) 0) (
 
 -- What is raised stays far below what a number holds.
 pub record CanRaise (mosts : List ℕ) (carriers without carrying : ℕ) : Type 0 where
+  pub long : length mosts ≡ coreLimit
   pub few : carriers < coreLimit
   pub small-without : without ≤ suc largestGap
   pub small-carrying : carrying ≤ suc largestGap
   pub small : (m : ℕ) → m ≤ carriers → getD mosts m 0 ≤ rowCapacity * suc largestGap
+
+-- The mosts up to `carriers` are the raised ones of the old.
+pub record Raised (old mosts : List ℕ) (carriers without carrying : ℕ) : Type 0 where
+  pub long : length mosts ≡ coreLimit
+  pub each : (m : ℕ) → m ≤ carriers → getD mosts m 0 ≡ raisedAt old without carrying m
 
 -- How many rows have room, and the least room of these, when one row more comes with this room.
 unfoldable pub countWith : (room count : ℕ) → ℕ

@@ -1,7 +1,6 @@
 //! The engine: the bounds of a table's rows from the top, and the answer.
 ghost use mathlib.Core.Path.{_≡_};
 ghost use Prim.Native.Nat.{ℕ, _+_, _-_, _*_, _/_, _≤_, _<_, min, max};
-ghost use lib.ListN.{getD};
 ghost use Rattle.quantities.specs.Row.{cost, deadline, gap};
 ghost use Rattle.quantities.specs.Limits.{rowCapacity, coreLimit, largestGap};
 ghost use Rattle.quantities.specs.Table.{rowsOf};
@@ -13,7 +12,7 @@ ghost use Rattle.windows.specs.Bound.{boundOf, boundsBelow};
 ghost use Rattle.windows.specs.Answer.{judged, verdict};
 ghost use Rattle.windows.specs.Judgement.{rowAt};
 ghost use Rattle.analysis.specs.Analysis.{ticks, numbers, analysisOf};
-ghost use Rattle.analysis.specs.Engine.{Ready, CanRaise, CanLoad, LoadIs, TakenIs, above, raisedAt, countWith, leastWith, foundOf};
+ghost use Rattle.analysis.specs.Engine.{Ready, CanRaise, Raised, CanLoad, LoadIs, TakenIs, above, countWith, leastWith, foundOf};
 use quantities::Checked;
 use quantities::Row;
 use quantities::Table;
@@ -72,15 +71,16 @@ fn smaller(a: u64, b: u64) -> u64
     b
 }
 
-// The most with each number of carriers, from 0 up to `carriers`, when one row more takes so much without and with carry-in.
-fn raised(
-    mut mosts: [u64; Table::CORE_LIMIT as usize],
+// Brings the most with each number of carriers, from 0 up to `carriers`, up to date when one row more takes so much
+// without and with carry-in.
+fn raise(
+    mosts: &mut [u64; Table::CORE_LIMIT as usize],
     carriers: usize,
     without: u64,
     carrying: u64,
-) -> [u64; Table::CORE_LIMIT as usize]
-    requires { ⌜ CanRaise mosts carriers without carrying ⌝ }
-    ensures { λ r. ⌜ ((m : ℕ) → m ≤ carriers → getD r m 0 ≡ raisedAt mosts without carrying m) ⌝ }
+)
+    requires { ⌜ CanRaise (now mosts) carriers without carrying ⌝ }
+    ensures { λ _. ⌜ Raised (now (mosts .entry)) (now (mosts .exit)) carriers without carrying ⌝ }
 {
     let mut m = carriers;
     while 0 < m {
@@ -91,7 +91,6 @@ fn raised(
         m -= 1;
     }
     mosts[0] = without + mosts[0];
-    mosts
 }
 
 // The work of the polls of a row that came in a window, the present one whole.
@@ -162,8 +161,7 @@ fn taken_above(
         let row = table.rows[i];
         let bound = bounds[i];
         let load = load_of(own, window, row, bound);
-        let next = raised(mosts, carriers, load.without, load.carrying);
-        mosts = next;
+        raise(&mut mosts, carriers, load.without, load.carrying);
         rooms = with_room(rooms, load.room);
         i += 1;
     }

@@ -139,20 +139,21 @@ load-of-requires c κs =
       short-window = s .pre .1;
     }
 
-raised-requires : tie.Need-raised-requires Inv-loop μ-loop
-raised-requires c κs =
-    let s = c .before .before .before .before .before in
-    let i = c .before .before .before .before .loop .i in
+raise-requires : tie.Need-raise-requires Inv-loop μ-loop
+raise-requires c κs =
+    let s = c .before .before .before .before .before .before in
+    let at = c .before .before .before .before .before .loop in
     let own = s .args .own .0 in
     let x = s .args .window .0 in
-    let small = load-small own x (entry (s .args .t2) (s .args .t3) i) (s .pre .1) in
+    let small = load-small own x (entry (s .args .t2) (s .args .t3) (at .i)) (s .pre .1) in
     record {
+      long = at .inv .long;
       few = omega arith;
-      small-without = rw (c .load-of .ensures .without) (small .0);
-      small-carrying = rw (c .load-of .ensures .carrying) (small .1);
+      small-without = rw (c .before .load-of .ensures .without) (small .0);
+      small-carrying = rw (c .before .load-of .ensures .carrying) (small .1);
       small = λ m h.
-          rw (c .before .before .before .before .loop .inv .mostly m h)
-          (most-small (s .args .t2) (s .args .t3) i own x m (omega arith) (s .pre .1));
+          rw (at .inv .mostly m h)
+          (most-small (s .args .t2) (s .args .t3) (at .i) own x m (omega arith) (s .pre .1));
     }
 
 with-room-requires : tie.Need-with-room-requires Inv-loop μ-loop
@@ -166,14 +167,15 @@ loop-less c = search needs
 
 loop-again : tie.Need-loop-again Inv-loop μ-loop
 loop-again c =
-    let s = c .before .before .before .before .before .before .before in
-    let at = c .before .before .before .before .before .before .loop in
-    let load = c .before .before .load-of in
+    let s = c .before .before .before .before .before .before .before .before in
+    let at = c .before .before .before .before .before .before .before .loop in
+    let load = c .before .before .before .load-of in
+    let raised = c .before .raise .ensures in
     turn (s .args .cores) (s .args .t2) (s .args .t3) (s .args .k) (s .args .own .0) (s .args .window .0) (at .mosts)
     (at .rooms .count) (at .rooms .least) (at .i) (s .pre .0 .within) (omega arith) (at .inv)
     (load .result .without) (load .result .carrying) (load .result .room) (load .ensures)
-    (c .before .raised .result) (c .with-room .result .count) (c .with-room .result .least) (search needs)
-    (c .before .raised .ensures) (c .with-room .ensures .0) (c .with-room .ensures .1)
+    _ (c .with-room .result .count) (c .with-room .result .least) (raised .long)
+    (raised .each) (c .with-room .ensures .0) (c .with-room .ensures .1)
 
 mul-most : tie.Need-mul-most Inv-loop μ-loop
 mul-most c = search needs
@@ -209,7 +211,7 @@ taken-above-spec =
     mul-bound
     array-copy-out-bound
     load-of-requires
-    raised-requires
+    raise-requires
     with-room-requires
     add-i
     loop-less

@@ -1,4 +1,4 @@
--- raised brings each number of carriers up to date, from the largest down, so that the one below is still the old one.
+-- raise brings each number of carriers up to date, from the largest down, so that the one below is still the old one.
 use Prim.Native.Nat.{ℕ, zero, suc, _+_, _-_, _≤_, _<_, max}
 use native.Mathlib.Omega.{arith}
 use native.Mathlib.Decide.{ℕ-discrete as decEq}
@@ -8,8 +8,8 @@ use borrow.Author.Needs.{needs}
 use lib.ListN.{length, getD, set, length-set}
 use lib.Seq.{getD-set-same, getD-set-other}
 use Rattle.analysis.specs.Engine.{raisedAt}
-use Rattle.analysis.proofs.raised.Statement.{statement}
-use Rattle.analysis.proofs.raised.Tie as tie
+use Rattle.analysis.proofs.raise.Statement.{statement}
+use Rattle.analysis.proofs.raise.Tie as tie
 
 -- the entries above m are the raised ones, the others are as they were
 record In (carriers without carrying : ℕ) (old mosts : List ℕ) (m : ℕ) : Type 0 where
@@ -50,25 +50,31 @@ module _ (carriers without carrying : ℕ) (old mosts : List ℕ) where
   last few i (suc m) h = rw (getD-set-other mosts 0 (suc m) (without + getD mosts 0 0) 0 (λ same. omega arith)) (i .done (suc m) (omega arith) h)
 
 abbrev Inv-loop : tie.InvT-loop
-Inv-loop carriers without carrying mosts₀ m₀ mosts m = In carriers without carrying mosts₀ mosts m
+Inv-loop mosts₀ carriers without carrying m₀ mosts m = In carriers without carrying mosts₀ mosts m
 
 abbrev μ-loop : tie.MeasureT-loop
-μ-loop carriers without carrying mosts₀ m₀ mosts m = m
+μ-loop mosts₀ carriers without carrying m₀ mosts m = m
 
 loop-holds : tie.Need-loop-holds Inv-loop μ-loop
-loop-holds c = search needs
+loop-holds c =
+    record {
+      le = omega arith;
+      long = c .pre .long;
+      done = λ j low high. absurd (omega arith);
+      kept = λ j h. refl;
+    }
 
 mul-staying : tie.Need-mul-staying Inv-loop μ-loop
 mul-staying c = search needs
 
-array-read-staying : tie.Need-array-read-staying Inv-loop μ-loop
-array-read-staying c = search needs
+element-copy-out-staying : tie.Need-element-copy-out-staying Inv-loop μ-loop
+element-copy-out-staying c = search needs
 
 add-staying : tie.Need-add-staying Inv-loop μ-loop
 add-staying c =
-    let i = c .before .loop .inv in
-    let m = c .before .loop .m in
-    record { fits = omega (arith, i .kept m (omega arith), c .before .before .pre .small m (omega arith)) }
+    let i = c .before .before .loop .inv in
+    let m = c .before .before .loop .m in
+    record { fits = omega (arith, i .kept m (omega arith), c .before .before .before .pre .small m (omega arith)) }
 
 sub-coming : tie.Need-sub-coming Inv-loop μ-loop
 sub-coming c = search needs
@@ -76,14 +82,14 @@ sub-coming c = search needs
 mul-coming : tie.Need-mul-coming Inv-loop μ-loop
 mul-coming c = search needs
 
-array-read-coming : tie.Need-array-read-coming Inv-loop μ-loop
-array-read-coming c = search needs
+element-copy-out-coming : tie.Need-element-copy-out-coming Inv-loop μ-loop
+element-copy-out-coming c = search needs
 
 add-coming : tie.Need-add-coming Inv-loop μ-loop
 add-coming c =
-    let i = c .before .loop .inv in
-    let n = c .before .loop .m - 1 in
-    record { fits = omega (arith, i .kept n (omega arith), c .before .before .pre .small n (omega arith)) }
+    let i = c .before .before .before .loop .inv in
+    let n = c .before .before .before .loop .m - 1 in
+    record { fits = omega (arith, i .kept n (omega arith), c .before .before .before .before .pre .small n (omega arith)) }
 
 larger-requires : tie.Need-larger-requires Inv-loop μ-loop
 larger-requires c κs = search needs
@@ -91,8 +97,8 @@ larger-requires c κs = search needs
 mul-mosts : tie.Need-mul-mosts Inv-loop μ-loop
 mul-mosts c = search needs
 
-array-write-mosts : tie.Need-array-write-mosts Inv-loop μ-loop
-array-write-mosts c = search needs
+element-write-mosts : tie.Need-element-write-mosts Inv-loop μ-loop
+element-write-mosts c = search needs
 
 sub-m : tie.Need-sub-m Inv-loop μ-loop
 sub-m c = search needs
@@ -102,50 +108,54 @@ loop-less c = search needs
 
 loop-again : tie.Need-loop-again Inv-loop μ-loop
 loop-again c =
-    let a = c .before .before .before .args in
-    let m = c .before .before .loop .m in
+    let a = c .before .before .before .before .before .args in
+    let at = c .before .before .before .before .loop in
+    let m = at .m in
     rw (c .larger .ensures)
-    (turn (a .carriers) (a .without) (a .carrying) (a .t1) (c .before .before .loop .mosts) m (m - 1) (omega arith) (omega arith) (c .before .before .loop .inv))
+    (turn (a .carriers) (a .without) (a .carrying) (a .mosts .now) (at .mosts) m (m - 1) (omega arith) (omega arith) (at .inv))
 
-array-read-mosts : tie.Need-array-read-mosts Inv-loop μ-loop
-array-read-mosts c = search needs
+element-copy-out-mosts : tie.Need-element-copy-out-mosts Inv-loop μ-loop
+element-copy-out-mosts c = search needs
 
 add-mosts : tie.Need-add-mosts Inv-loop μ-loop
 add-mosts c =
-    let i = c .before .loop .inv in
-    record { fits = omega (arith, i .kept 0 (omega arith), c .before .before .pre .small 0 (omega arith)) }
+    let i = c .before .before .loop .inv in
+    record { fits = omega (arith, i .kept 0 (omega arith), c .before .before .before .pre .small 0 (omega arith)) }
 
-array-write-mosts-2 : tie.Need-array-write-mosts-2 Inv-loop μ-loop
-array-write-mosts-2 c = search needs
+element-write-mosts-2 : tie.Need-element-write-mosts-2 Inv-loop μ-loop
+element-write-mosts-2 c = search needs
 
 returns : tie.Need-returns Inv-loop μ-loop
 returns c =
-    let a = c .before .before .args in
-    let m = c .before .loop .m in
-    let over : m ≡ 0 = omega arith in
-    last (a .carriers) (a .without) (a .carrying) (a .t1) (c .before .loop .mosts) (omega arith) (rw over at (c .before .loop .inv))
+    let a = c .before .before .before .args in
+    let at = c .before .before .loop in
+    let over : at .m ≡ 0 = omega arith in
+    record {
+      long = length-set (at .mosts) 0 (a .without + getD (at .mosts) 0 0) ∙ at .inv .long;
+      each = last (a .carriers) (a .without) (a .carrying) (a .mosts .now) (at .mosts) (omega arith) (rw over at (at .inv));
+    }
 
-pub raised-spec : {M : Type 1} → statement M
-raised-spec =
+pub raise-spec : {M : Type 1} → statement M
+raise-spec =
     tie.close
     (tie.spec
     Inv-loop
     μ-loop
     loop-holds
     mul-staying
-    array-read-staying
+    element-copy-out-staying
     add-staying
     sub-coming
     mul-coming
-    array-read-coming
+    element-copy-out-coming
     add-coming
     larger-requires
     mul-mosts
-    array-write-mosts
+    element-write-mosts
     sub-m
     loop-less
     loop-again
-    array-read-mosts
+    element-copy-out-mosts
     add-mosts
-    array-write-mosts-2
+    element-write-mosts-2
     returns)
