@@ -5,7 +5,7 @@ use mathlib.Core.Path.{_≡_, refl, sym, ap, _∙_}
 use mathlib.Core.Logic.{_⊎_, ⊎-elim}
 use mathlib.Core.List.{List, _++_}
 use mathlib.Core.Option.{Option, none, some}
-use lib.ListN.{length}
+use lib.ListN.{length, take}
 use lib.Seq.{length-take-le}
 use borrow.Author.Tests.{lt-ltb, le-ltb}
 use Rattle.quantities.specs.Limits.{rowCapacity}
@@ -25,6 +25,7 @@ use Rattle.analysis.specs.Analysis.{numbers, inArray, analysisOf}
 use Rattle.analysis.specs.declared.Analysis.{Analysis}
 use Rattle.sheet.specs.Entries.{tableOf}
 use Rattle.sheet.specs.Reader.{readOf}
+use Rattle.sheet.proofs.Promises.{first-1024}
 use Rattle.sheet.specs.declared.Sheet.{Sheet}
 use Rattle.sheet.specs.declared.Outcome.{Outcome}
 use Rattle.sheet.specs.declared.Verdict.the-variants.{Sound, Refused as Unread}
@@ -156,3 +157,8 @@ module _ (sheet buffer : List ℕ) where
         within = l;
         part = sym (length-take-le count after l);
       }
+
+-- what is printed depends on the first 1,024 bytes alone
+pub text-first-bytes : (sheet : List ℕ) → textOf (take 1024 sheet) ≡ textOf sheet
+unfolding textOf
+text-first-bytes sheet = ap outcomeText (first-1024 sheet)

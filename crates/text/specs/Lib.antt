@@ -4,3 +4,4 @@ pub mod Decimal
 pub mod Buffer
 pub mod Lines
 pub mod Text
+pub mod Cases
