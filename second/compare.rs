@@ -38,7 +38,7 @@ fn exchange(seed: u64, count: u64, child: &mut Child) -> Option<Tally> {
     compare_answers(seed, count, BufReader::new(output))
 }
 
-fn start(program: &str, arguments: &[String]) -> std::io::Result<Child> {
+pub fn start(program: &str, arguments: &[String]) -> std::io::Result<Child> {
     Command::new(program)
         .args(arguments)
         .stdin(Stdio::piped())
@@ -46,7 +46,7 @@ fn start(program: &str, arguments: &[String]) -> std::io::Result<Child> {
         .spawn()
 }
 
-fn complain(what: &str) -> bool {
+pub fn complain(what: &str) -> bool {
     println!("{what}");
     false
 }
@@ -82,7 +82,7 @@ fn compare_answers(seed: u64, count: u64, mut output: BufReader<ChildStdout>) ->
     Some(tally)
 }
 
-fn read_answer(output: &mut BufReader<ChildStdout>, index: u64) -> Option<Vec<u8>> {
+pub fn read_answer(output: &mut BufReader<ChildStdout>, index: u64) -> Option<Vec<u8>> {
     let answer = read_frame(output);
     match &answer {
         Ok(Some(_)) => true,

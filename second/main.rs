@@ -1,4 +1,4 @@
-// The commands: answer, selftest, sheets, frames, answers.
+// The commands: answer, selftest; sheets, frames, answers; histories, history-frames, history-answers.
 
 mod bench;
 mod bench_tests;
@@ -7,6 +7,8 @@ mod compare;
 mod damage;
 mod draft;
 mod frames;
+mod histories;
+mod history_cases;
 mod list;
 mod random;
 mod selftest;
@@ -21,7 +23,10 @@ const USAGE: &str = "second answer
 second selftest
 second sheets SEED COUNT PROGRAM [ARG..]
 second frames SEED COUNT
-second answers";
+second answers
+second histories SEED COUNT PROGRAM [ARG..]
+second history-frames SEED COUNT
+second history-answers";
 
 fn main() -> ExitCode {
     let arguments: Vec<String> = std::env::args().skip(1).collect();
@@ -34,10 +39,21 @@ fn main() -> ExitCode {
             _ => usage(),
         },
         ["frames", seed, count] => match (seed.parse(), count.parse()) {
-            (Ok(seed), Ok(count)) => done(frames(seed, count)),
+            (Ok(seed), Ok(count)) => done(frames(seed, count, cases::sheet)),
             _ => usage(),
         },
-        ["answers"] => done(answers()),
+        ["answers"] => done(answers(text::answer)),
+        ["histories", seed, count, program, ..] => match (seed.parse(), count.parse()) {
+            (Ok(seed), Ok(count)) => {
+                good(histories::compare(seed, count, program, &arguments[4..]))
+            }
+            _ => usage(),
+        },
+        ["history-frames", seed, count] => match (seed.parse(), count.parse()) {
+            (Ok(seed), Ok(count)) => done(frames(seed, count, history_cases::history)),
+            _ => usage(),
+        },
+        ["history-answers"] => done(answers(histories::answer)),
         _ => usage(),
     }
 }
@@ -70,19 +86,19 @@ fn answer() -> Result<()> {
     stdout().write_all(&text::answer(&sheet))
 }
 
-fn frames(seed: u64, count: u64) -> Result<()> {
+fn frames(seed: u64, count: u64, case: fn(u64, u64) -> Vec<u8>) -> Result<()> {
     let mut out = BufWriter::new(stdout());
     for index in 0..count {
-        frames::write_frame(&mut out, &cases::sheet(seed, index))?;
+        frames::write_frame(&mut out, &case(seed, index))?;
     }
     out.flush()
 }
 
-fn answers() -> Result<()> {
+fn answers(answer: fn(&[u8]) -> Vec<u8>) -> Result<()> {
     let mut input = BufReader::new(stdin());
     let mut out = BufWriter::new(stdout());
-    while let Some(sheet) = frames::read_frame(&mut input)? {
-        frames::write_frame(&mut out, &text::answer(&sheet))?;
+    while let Some(case) = frames::read_frame(&mut input)? {
+        frames::write_frame(&mut out, &answer(&case))?;
     }
     out.flush()
 }
