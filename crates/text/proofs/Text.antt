@@ -5,7 +5,7 @@ use mathlib.Core.Path.{_≡_, refl, sym, ap, _∙_}
 use mathlib.Core.Logic.{_⊎_, ⊎-elim}
 use mathlib.Core.List.{List, _++_}
 use mathlib.Core.Option.{Option, none, some}
-use lib.ListN.{length, take}
+use lib.ListN.{length, take, length-append}
 use Rattle.quantities.specs.Limits.{rowCapacity}
 use Rattle.quantities.specs.Table.{rowsOf}
 use Rattle.quantities.specs.Checks.{listFault, SoundList}
@@ -26,6 +26,7 @@ use Rattle.sheet.specs.Reader.{readOf}
 use Rattle.sheet.proofs.Promises.{first-1024}
 use Rattle.sheet.specs.declared.Sheet.{Sheet}
 use Rattle.sheet.specs.declared.Outcome.{Outcome}
+use Rattle.sheet.specs.declared.Verdict.{Verdict}
 use Rattle.sheet.specs.declared.Verdict.the-variants.{Sound, Refused as Unread}
 use Rattle.text.specs.Lines.{shownLine, notShownLine, refusedLine}
 use Rattle.text.specs.Text.{linesUpTo, boundLines, labelAt, paperLine, judgedText, sheetText, outcomeText, textOf}
@@ -129,3 +130,25 @@ module _ (bytes : List ℕ) (outcome : Outcome) (reads : outcome ≡ readOf byte
 pub text-first-bytes : (sheet : List ℕ) → textOf (take 1024 sheet) ≡ textOf sheet
 unfolding textOf
 text-first-bytes sheet = ap outcomeText (first-1024 sheet)
+
+-- no text is empty
+refused-some : (number place : ℕ) → 0 < length (refusedLine number place)
+unfolding refusedLine
+refused-some number place = simp length-append (omega arith)
+
+judged-some : (sheet : Sheet) (rows : List Row) (j : Judged) → 0 < length (judgedText sheet rows j)
+unfolding judgedText shownLine notShownLine
+judged-some sheet rows j = go (j .answer) refl
+  where
+    go : (answer : Answer) → j .answer ≡ answer → 0 < length (judgedText sheet rows j)
+    go Shown e = rw (e, judgedText, length-append) (omega arith)
+    go (NotShown place) e = rw (e, judgedText) (simp length-append (omega arith))
+    go (Refused fault) e = rw (e, judgedText) (refused-some (paperOf (Refused fault) .number) (paperOf (Refused fault) .place))
+
+pub text-some : (bytes : List ℕ) → 0 < length (textOf bytes)
+unfolding textOf outcomeText sheetText
+text-some bytes = go (readOf bytes .verdict) refl
+  where
+    go : (verdict : Verdict) → readOf bytes .verdict ≡ verdict → 0 < length (outcomeText (readOf bytes))
+    go (Unread number place) e = rw (e, outcomeText) (refused-some number place)
+    go Sound e = rw (e, outcomeText) (judged-some (readOf bytes .sheet) _ _)
