@@ -39,7 +39,8 @@ module _ (sheet buffer : List ℕ) where
         part = sym (length-take-le count after l);
       }
 
--- What the contract says of a buffer with room enough: the text stands at its front, and every later byte is as it was.
+-- What the contract says of a buffer with room enough: the text stands at its front, and every later byte is
+-- as it was.
 pub text-in-front : (sheet buffer after : List ℕ) (count : ℕ) → textRoom ≤ length buffer → Printed sheet buffer after count
     → (take count after ≡ textOf sheet) × (drop count after ≡ drop count buffer)
 unfolding written countIn overlaid

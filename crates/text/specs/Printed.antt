@@ -14,7 +14,8 @@ use Rattle.text.specs.Text.{textOf}
 abbrev pub textRoom : ℕ
 textRoom = (rowCapacity + 2) * lineRoom
 
--- what a lent buffer holds afterwards: the text at its front and what it held behind; one that is too short as it was
+-- what a lent buffer holds afterwards: the text at its front and what it held behind; one that is too short
+-- as it was
 unfoldable pub written : List ℕ → List ℕ → List ℕ
 written text buffer = elim (ltb (length buffer) textRoom) [ true ↦ buffer | false ↦ overlaid buffer 0 text ]
 
@@ -22,8 +23,9 @@ written text buffer = elim (ltb (length buffer) textRoom) [ true ↦ buffer | fa
 unfoldable pub countIn : List ℕ → List ℕ → ℕ
 countIn text buffer = elim (ltb (length buffer) textRoom) [ true ↦ 0 | false ↦ length text ]
 
--- The text of a sheet was asked for in a lent buffer: what it holds then, and how many of its bytes are the text. These
--- are within it, as whoever lends them on asks; and a buffer with room enough has it for the whole text.
+-- The text of a sheet was asked for in a lent buffer: what it holds then, and how many of its bytes are the
+-- text. These are within it, as whoever lends them on asks; and a buffer with room enough has it for the
+-- whole text.
 pub record Printed (sheet buffer after : List ℕ) (count : ℕ) : Type 0 where
   pub holds : after ≡ written (textOf sheet) buffer
   pub counts : count ≡ countIn (textOf sheet) buffer

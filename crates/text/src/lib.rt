@@ -82,8 +82,8 @@ fn put_sheet(out: &mut [u8], sheet: Sheet) -> usize
     }
 }
 
-// The text of a sheet's answer at the front of a lent buffer, and how many bytes it has. A buffer shorter than
-// TEXT_ROOM is left as it is, and none of its bytes is the text.
+// The text of a sheet's answer at the front of a lent buffer, and how many bytes it has. A buffer shorter
+// than TEXT_ROOM is left as it is, and none of its bytes is the text.
 pub fn print_answer(sheet: &[u8], out: &mut [u8]) -> usize
     ensures { λ r. ⌜ Printed (now (sheet .entry)) (now (out .entry)) (now (out .exit)) r ⌝ }
 {

@@ -1,4 +1,4 @@
--- print_answer lays the text of the sheet's answer at the buffer's front, by the cases of the reader's answer.
+-- print_answer lays the text at the buffer's front, by the cases of the reader's answer.
 use native.Mathlib.Omega.{arith}
 use Rattle.text.proofs.Text.{text-unread, text-read}
 use Rattle.text.proofs.Printed.{printed-nothing, printed}
