@@ -1,5 +1,6 @@
-// Reads many sheets from standard input and writes the answer to each, for a comparison with another program. Each is a
-// frame: a two-byte length, most significant byte first, and that many bytes. It ends with the input.
+// Reads many sheets from standard input and writes the answer to each, for a comparison with another program.
+// Each is a frame: a two-byte length, most significant byte first, and that many bytes. It ends with the
+// input.
 ghost use Prim.Native.Nat.{_+_, _*_};
 ghost use mathlib.Core.Path.{_≡_};
 ghost use Rattle.io.specs.Counts.{Counts};
@@ -62,8 +63,8 @@ fn answer_one(room: &mut [u8]) -> bool {
     answer_sheet(&mut room[..size])
 }
 
-// A proved loop has to end, and nothing says that the input does: so it counts its turns down, from a number that no
-// run uses up.
+// A proved loop has to end, and nothing says that the input does: so it counts its turns down, from a number
+// that no run uses up.
 fn answer_all(room: &mut [u8]) {
     let mut turns = u64::MAX;
     while turns > 0 && answer_one(room) {

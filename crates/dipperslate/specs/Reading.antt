@@ -1,4 +1,4 @@
--- What was read lies within the input's room. Of the bytes that came nothing can be said: they are the world's.
+-- What was read lies within the input's room; of the bytes themselves nothing can be said.
 use mathlib.Core.List.{List}
 use Prim.Native.Nat.{ℕ}
 use Rattle.io.specs.Counts.{Counts}

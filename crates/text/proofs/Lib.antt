@@ -3,3 +3,4 @@ pub mod Decimal
 pub mod Buffer
 pub mod Lines
 pub mod Text
+pub mod Printed

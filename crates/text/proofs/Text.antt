@@ -5,9 +5,7 @@ use mathlib.Core.Path.{_≡_, refl, sym, ap, _∙_}
 use mathlib.Core.Logic.{_⊎_, ⊎-elim}
 use mathlib.Core.List.{List, _++_}
 use mathlib.Core.Option.{Option, none, some}
-use lib.ListN.{length, take}
-use lib.Seq.{length-take-le}
-use borrow.Author.Tests.{lt-ltb, le-ltb}
+use lib.ListN.{length, take, length-append}
 use Rattle.quantities.specs.Limits.{rowCapacity}
 use Rattle.quantities.specs.Table.{rowsOf}
 use Rattle.quantities.specs.Checks.{listFault, SoundList}
@@ -28,11 +26,10 @@ use Rattle.sheet.specs.Reader.{readOf}
 use Rattle.sheet.proofs.Promises.{first-1024}
 use Rattle.sheet.specs.declared.Sheet.{Sheet}
 use Rattle.sheet.specs.declared.Outcome.{Outcome}
+use Rattle.sheet.specs.declared.Verdict.{Verdict}
 use Rattle.sheet.specs.declared.Verdict.the-variants.{Sound, Refused as Unread}
-use Rattle.text.specs.Buffer.{Puts}
-use Rattle.text.specs.Lines.{firstLine, rowLines, shownLine, notShownLine, refusedLine}
-use Rattle.text.specs.Text.{boundLines, labelAt, paperLine, judgedText, sheetText, outcomeText, textOf, textRoom, written, countIn, Printed}
-use Rattle.text.proofs.Buffer.{length-puts}
+use Rattle.text.specs.Lines.{shownLine, notShownLine, refusedLine}
+use Rattle.text.specs.Text.{linesUpTo, boundLines, labelAt, paperLine, judgedText, sheetText, outcomeText, textOf}
 use Rattle.text.proofs.Lines.{lines-in-array}
 
 module _ (M : ℕ) (rows : List Row) where
@@ -71,10 +68,9 @@ pub record Analysed (sheet : Sheet) (table : Table) (analysis : Analysis) : Type
   pub tabled : table ≡ tableOf sheet
   pub judges : analysis ≡ analysisOf (judged (sheet .cores) (rowsOf table))
 
--- the lines that the code puts before the last one, so many of them row lines
-abbrev pub linesUpTo : Sheet → Table → Analysis → ℕ → List ℕ
-linesUpTo sheet table analysis k = firstLine (sheet .cores) (sheet .tick .0) (table .count)
-    ++ rowLines (sheet .entries) (numbers (analysis .bounds)) k
+-- the lines that the code puts before the last one, k of them row lines
+abbrev pub linesBefore : Sheet → Table → Analysis → ℕ → List ℕ
+linesBefore sheet table analysis k = linesUpTo sheet (table .count) (numbers (analysis .bounds)) k
 
 module _ (sheet : Sheet) (table : Table) (analysis : Analysis) (a : Analysed sheet table analysis) where
   abbrev found : Judged
@@ -84,7 +80,7 @@ module _ (sheet : Sheet) (table : Table) (analysis : Analysis) (a : Analysed she
   unfolding analysisOf
   answer-is = sym (ap (λ (x : Analysis). x .answer) (a .judges))
 
-  lines-are : boundLines sheet (rowsOf table) (found .bounds) ≡ linesUpTo sheet table analysis (length (found .bounds))
+  lines-are : boundLines sheet (rowsOf table) (found .bounds) ≡ linesBefore sheet table analysis (length (found .bounds))
   unfolding boundLines analysisOf
   lines-are =
       rw (length-rows table, ap (λ (x : Analysis). x .bounds) (a .judges), lines-in-array (sheet .entries) (found .bounds) (length (found .bounds))) refl
@@ -97,7 +93,7 @@ module _ (sheet : Sheet) (table : Table) (analysis : Analysis) (a : Analysed she
   pub count-shown : analysis .answer ≡ Shown → table .count ≤ rowCapacity
   count-shown e = omega (arith, length-rows table, shown-counts (sheet .cores) (rowsOf table) (answer-is ∙ e) .1)
 
-  pub text-shown : analysis .answer ≡ Shown → sheetText sheet ≡ linesUpTo sheet table analysis (table .count) ++ shownLine
+  pub text-shown : analysis .answer ≡ Shown → sheetText sheet ≡ linesBefore sheet table analysis (table .count) ++ shownLine
   unfolding judgedText
   text-shown e =
       let same : length (found .bounds) ≡ table .count = shown-counts (sheet .cores) (rowsOf table) (answer-is ∙ e) .0 ∙ length-rows table in
@@ -109,7 +105,7 @@ module _ (sheet : Sheet) (table : Table) (analysis : Analysis) (a : Analysed she
       (omega (arith, counts .0), omega (arith, counts .0, counts .1))
 
   pub text-not-shown : (place : ℕ) → analysis .answer ≡ NotShown place
-      → sheetText sheet ≡ linesUpTo sheet table analysis (place - 1) ++ notShownLine place (labelAt sheet (place - 1))
+      → sheetText sheet ≡ linesBefore sheet table analysis (place - 1) ++ notShownLine place (labelAt sheet (place - 1))
   unfolding judgedText
   text-not-shown place e =
       let same : length (found .bounds) ≡ place - 1 =
@@ -130,35 +126,29 @@ module _ (bytes : List ℕ) (outcome : Outcome) (reads : outcome ≡ readOf byte
   unfolding textOf outcomeText
   text-read e = ap outcomeText (sym reads) ∙ rw (e, outcomeText) refl
 
-module _ (sheet buffer : List ℕ) where
-  -- a buffer that is too short is left as it is
-  pub printed-nothing : length buffer < textRoom → Printed sheet buffer buffer 0
-  unfolding written countIn
-  printed-nothing h =
-      record {
-        holds = rw (lt-ltb (length buffer) textRoom h, written) refl;
-        counts = rw (lt-ltb (length buffer) textRoom h, countIn) refl;
-        enough = λ k. absurd (omega arith);
-        within = omega arith;
-        part = refl;
-      }
-
-  -- one with room enough has the text at its front
-  pub printed : (after : List ℕ) (count : ℕ) → textRoom ≤ length buffer → Puts buffer 0 (textOf sheet) after count
-      → length (textOf sheet) ≤ textRoom → Printed sheet buffer after count
-  unfolding written countIn
-  printed after count h p short =
-      let kept = length-puts p in
-      let l : count ≤ length after = omega (arith, p .ends) in
-      record {
-        holds = rw (le-ltb (length buffer) textRoom h, written) (p .lies);
-        counts = rw (le-ltb (length buffer) textRoom h, countIn) (omega (arith, p .ends));
-        enough = λ k. short;
-        within = l;
-        part = sym (length-take-le count after l);
-      }
-
 -- what is printed depends on the first 1,024 bytes alone
 pub text-first-bytes : (sheet : List ℕ) → textOf (take 1024 sheet) ≡ textOf sheet
 unfolding textOf
 text-first-bytes sheet = ap outcomeText (first-1024 sheet)
+
+-- no text is empty
+refused-some : (number place : ℕ) → 0 < length (refusedLine number place)
+unfolding refusedLine
+refused-some number place = simp length-append (omega arith)
+
+judged-some : (sheet : Sheet) (rows : List Row) (j : Judged) → 0 < length (judgedText sheet rows j)
+unfolding judgedText shownLine notShownLine
+judged-some sheet rows j = go (j .answer) refl
+  where
+    go : (answer : Answer) → j .answer ≡ answer → 0 < length (judgedText sheet rows j)
+    go Shown e = rw (e, judgedText, length-append) (omega arith)
+    go (NotShown place) e = rw (e, judgedText) (simp length-append (omega arith))
+    go (Refused fault) e = rw (e, judgedText) (refused-some (paperOf (Refused fault) .number) (paperOf (Refused fault) .place))
+
+pub text-some : (bytes : List ℕ) → 0 < length (textOf bytes)
+unfolding textOf outcomeText sheetText
+text-some bytes = go (readOf bytes .verdict) refl
+  where
+    go : (verdict : Verdict) → readOf bytes .verdict ≡ verdict → 0 < length (outcomeText (readOf bytes))
+    go (Unread number place) e = rw (e, outcomeText) (refused-some number place)
+    go Sound e = rw (e, outcomeText) (judged-some (readOf bytes .sheet) _ _)

@@ -8,8 +8,8 @@ use lib.ListN.{length, take, drop}
 unfoldable pub overlaid : List ℕ → ℕ → List ℕ → List ℕ
 overlaid buffer at bytes = take at buffer ++ bytes ++ drop (at + length bytes) buffer
 
--- Bytes were put into a buffer from a place on: they fit, it holds them and else what it held, and the next place is
--- the one behind them.
+-- Bytes were put into a buffer from a place on: they fit, it holds them and else what it held, and the next
+-- place is the one behind them.
 pub record Puts (buffer : List ℕ) (at : ℕ) (bytes after : List ℕ) (next : ℕ) : Type 0 where
   pub fits : at + length bytes ≤ length buffer
   pub lies : after ≡ overlaid buffer at bytes

@@ -1,4 +1,4 @@
--- The sheet of document 01 and the text that it asks for, and a row not shown, each computed by the definitions.
+-- The sheet of document 01 and its text, and other sheets with theirs, computed by the definitions.
 use Prim.Native.Nat.{ℕ}
 use mathlib.Core.Path.{_≡_, refl}
 use mathlib.Core.List.{List, [], _∷_, _++_}

@@ -8,8 +8,8 @@ use lib.Dec.{ltb}
 abbrev pub digit : ℕ → ℕ
 digit d = 48 + d
 
--- the digits of a number, the most significant first, at most so many: one for a number below ten, else those of its
--- tenth and then the last
+-- the digits of a number, the most significant first, at most so many: one for a number below ten, else those
+-- of its tenth and then the last
 unfoldable pub digitsIn : ℕ → ℕ → List ℕ
 digitsIn zero n = []
 digitsIn (suc most) n =

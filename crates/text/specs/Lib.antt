@@ -4,4 +4,5 @@ pub mod Decimal
 pub mod Buffer
 pub mod Lines
 pub mod Text
+pub mod Printed
 pub mod Cases

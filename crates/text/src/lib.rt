@@ -12,16 +12,15 @@ use sheet::Sheet;
 use sheet::Verdict;
 use windows::Answer;
 ghost use Prim.Native.Nat.{_+_, _*_, _≤_};
-ghost use mathlib.Core.Path.{_≡_};
-ghost use mathlib.Core.List.{_++_};
 ghost use lib.ListN.{length};
 ghost use Rattle.quantities.specs.Limits.{rowCapacity};
 ghost use Rattle.windows.specs.Answer.{paperOf};
 ghost use Rattle.windows.specs.declared.Answer.the-variants.{Refused};
 ghost use Rattle.analysis.specs.Analysis.{numbers};
 ghost use Rattle.text.specs.Buffer.{Puts};
-ghost use Rattle.text.specs.Lines.{firstLine, rowLines, lineRoom};
-ghost use Rattle.text.specs.Text.{paperLine, sheetText, textRoom, Printed};
+ghost use Rattle.text.specs.Lines.{lineRoom};
+ghost use Rattle.text.specs.Text.{linesUpTo, paperLine, sheetText};
+ghost use Rattle.text.specs.Printed.{textRoom, Printed};
 
 mod line;
 mod put;
@@ -50,8 +49,8 @@ fn put_bound_lines(
     count: usize,
 ) -> usize
     requires { ⌜ (count ≤ rowCapacity) × ((count + 1) * lineRoom ≤ length (now out)) ⌝ }
-    ensures { λ r. ⌜ Puts (now (out .entry)) 0 (firstLine (sheet .cores) (sheet .tick .0) rows ++ rowLines (sheet .entries) (numbers bounds) count) (now (out .exit)) r ⌝ }
-    ensures { λ r. ⌜ length (firstLine (sheet .cores) (sheet .tick .0) rows ++ rowLines (sheet .entries) (numbers bounds) count) ≤ (count + 1) * lineRoom ⌝ }
+    ensures { λ r. ⌜ Puts (now (out .entry)) 0 (linesUpTo sheet rows (numbers bounds) count) (now (out .exit)) r ⌝ }
+    ensures { λ r. ⌜ length (linesUpTo sheet rows (numbers bounds) count) ≤ (count + 1) * lineRoom ⌝ }
 {
     let next = put_first_line(out, 0, sheet.cores, sheet.tick, rows);
     put_row_lines(out, next, sheet, bounds, count)
@@ -83,8 +82,8 @@ fn put_sheet(out: &mut [u8], sheet: Sheet) -> usize
     }
 }
 
-// The text of a sheet's answer at the front of a lent buffer, and how many bytes it has. A buffer with less room than
-// TEXT_ROOM is left as it is, and none of its bytes is the text.
+// The text of a sheet's answer at the front of a lent buffer, and how many bytes it has. A buffer shorter
+// than TEXT_ROOM is left as it is, and none of its bytes is the text.
 pub fn print_answer(sheet: &[u8], out: &mut [u8]) -> usize
     ensures { λ r. ⌜ Printed (now (sheet .entry)) (now (out .entry)) (now (out .exit)) r ⌝ }
 {

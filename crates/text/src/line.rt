@@ -1,4 +1,4 @@
-//! The lines of document 01, "One sheet through the program", put into a lent buffer; each answers the next place.
+//! The lines of the program's output put into a lent buffer; each function answers the next place.
 use crate::put::put_number;
 use crate::put::put_word;
 use crate::put::put_worded;

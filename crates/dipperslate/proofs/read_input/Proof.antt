@@ -1,4 +1,4 @@
--- read_input answers how many bytes it read, within the input's room. Each turn of the loop reads one byte or more.
+-- read_input answers how many bytes it read, within its room; each turn reads one byte or more.
 use Prim.Native.Nat.{ℕ, _-_, _≤_}
 use native.Mathlib.Omega.{arith}
 use borrow.Author.Needs.{needs}

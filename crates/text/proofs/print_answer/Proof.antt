@@ -1,6 +1,7 @@
--- print_answer lays the text of the sheet's answer at the buffer's front, by the cases of the reader's answer.
+-- print_answer lays the text at the buffer's front, by the cases of the reader's answer.
 use native.Mathlib.Omega.{arith}
-use Rattle.text.proofs.Text.{text-unread, text-read, printed-nothing, printed}
+use Rattle.text.proofs.Text.{text-unread, text-read}
+use Rattle.text.proofs.Printed.{printed-nothing, printed}
 use borrow.Author.Needs.{needs}
 use Rattle.text.proofs.print_answer.Statement.{statement}
 use Rattle.text.proofs.print_answer.Tie as tie

@@ -1,4 +1,4 @@
--- put_row_lines lays the lines of the rows, one behind the other. The loop's invariant: so many of them lie there.
+-- put_row_lines lays row lines one behind the other; the invariant: so many of them lie there.
 use Prim.Native.Nat.{ℕ, _+_, _-_, _*_, _≤_, _<_}
 use native.Mathlib.Omega.{arith}
 use native.Mathlib.Numerals.{add-one}
