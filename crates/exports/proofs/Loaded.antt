@@ -1,0 +1,111 @@
+-- Laws of the table that a list makes: its rows are the list's, and where there are too many the answer is the same.
+use Prim.Native.Nat.{ℕ, zero, suc, _+_, _≤_, _<_}
+use native.Mathlib.Omega.{arith}
+use native.Mathlib.Decide.{decLe}
+use native.Mathlib.Numerals.{add-one}
+use mathlib.Core.Path.{_≡_, refl, sym, ap, _∙_}
+use mathlib.Core.List.{List, [], _∷_, _++_}
+use mathlib.Core.Option.{some}
+use lib.ListN.{length, take, set, replicate, length-set, length-replicate}
+use lib.Seq.{take-suc, take-suc-set, take-append-le, take-length}
+use borrow.Author.Tests.{lt-ltb, le-ltb}
+use Rattle.quantities.specs.Limits.{rowCapacity}
+use Rattle.quantities.specs.Row.{noRow}
+use Rattle.quantities.specs.Table.{rowsOf, emptyTable, withRow}
+use Rattle.quantities.specs.Checks.{listFault}
+use Rattle.quantities.specs.declared.Row.{Row}
+use Rattle.quantities.specs.declared.Table.{Table}
+use Rattle.quantities.specs.declared.Fault.the-variants.{WholeList}
+use Rattle.quantities.proofs.Checks.{list-fault-many-rows}
+use Rattle.quantities.proofs.Rows.{length-rows}
+use Rattle.windows.specs.Answer.{judgedInto}
+use Rattle.windows.specs.Judgement.{rowAt}
+use Rattle.exports.specs.Loaded.{loaded, tableOf}
+use Rattle.exports.proofs.Into.{into-faulty}
+
+-- a table that is not full takes one row more; a full one counts one row too many
+with-row-fits : (table : Table) (row : Row) → table .count < rowCapacity
+    → withRow table row ≡ record { count = table .count + 1; rows = set (table .rows) (table .count) row }
+unfolding withRow
+with-row-fits table row h = rw (lt-ltb (table .count) rowCapacity h) refl
+
+with-row-full : (table : Table) (row : Row) → rowCapacity ≤ table .count → withRow table row .count ≡ suc rowCapacity
+unfolding withRow
+with-row-full table row h = rw (le-ltb (table .count) rowCapacity h) refl
+
+-- A table holds the first n rows of a list.
+record Holds (rows : List Row) (n : ℕ) (table : Table) : Type 0 where
+  counts : table .count ≡ n
+  long : length (table .rows) ≡ rowCapacity
+  kept : take n (table .rows) ≡ take n rows
+
+module _ (rows : List Row) where
+  holds-none : Holds rows 0 emptyTable
+  unfolding emptyTable
+  holds-none = record { counts = refl; long = length-replicate rowCapacity noRow; kept = refl }
+
+  holds-next : (n : ℕ) (table : Table) → n < rowCapacity → n < length rows → Holds rows n table
+      → Holds rows (suc n) (withRow table (rowAt rows n))
+  holds-next n table few h held =
+      rw (with-row-fits table (rowAt rows n) (omega (arith, held .counts)), held .counts)
+      (record {
+        counts = omega arith;
+        long = length-set (table .rows) n (rowAt rows n) ∙ held .long;
+        kept = kept-next;
+      })
+    where
+      kept-next : take (suc n) (set (table .rows) n (rowAt rows n)) ≡ take (suc n) rows
+      kept-next =
+          let inside : n < length (table .rows) = omega (arith, held .long) in
+          rw (take-suc-set (table .rows) n (rowAt rows n) inside, take-suc rows n noRow h, held .kept) refl
+
+  -- as long as the rows fit, the table holds those loaded
+  holds-loaded : (n : ℕ) → n ≤ rowCapacity → n ≤ length rows → Holds rows n (loaded n rows)
+  unfolding loaded
+  holds-loaded zero few h = holds-none
+  holds-loaded (suc n) few h =
+      holds-next n (loaded n rows) (omega arith) (omega arith) (holds-loaded n (omega arith) (omega arith))
+
+  -- and past the capacity it counts one row too many
+  full-loaded : (n : ℕ) → rowCapacity < n → n ≤ length rows → loaded n rows .count ≡ suc rowCapacity
+  unfolding loaded
+  full-loaded zero few h = absurd (omega arith)
+  full-loaded (suc n) few h = with-row-full (loaded n rows) (rowAt rows n) (full (decLe n rowCapacity) (full-loaded n))
+    where
+      full : Dec (n ≤ rowCapacity) → (rowCapacity < n → n ≤ length rows → loaded n rows .count ≡ suc rowCapacity)
+          → rowCapacity ≤ loaded n rows .count
+      full (yes l) past = omega (arith, holds-loaded n l (omega arith) .counts)
+      full (no l) past = omega (arith, past (omega arith) (omega arith))
+
+  -- a list that fits is the rows of its table
+  pub rows-loaded : length rows ≤ rowCapacity → rowsOf (tableOf rows) ≡ rows
+  unfolding rowsOf
+  rows-loaded few =
+      let n = length rows in
+      let held = holds-loaded n few (omega arith) in
+      let t = tableOf rows in
+      ap (λ k. take k (t .rows ++ replicate k noRow)) (held .counts)
+      ∙ take-append-le n (t .rows) (replicate n noRow) (omega (arith, held .long))
+      ∙ held .kept
+      ∙ take-length rows
+
+  -- too many rows are fault 1, and so is the table that they make
+  many-faulty : (cores : ℕ) → rowCapacity < length rows
+      → (listFault cores rows ≡ some (WholeList 1)) × (listFault cores (rowsOf (tableOf rows)) ≡ some (WholeList 1))
+  many-faulty cores many =
+      let counted : length (rowsOf (tableOf rows)) ≡ suc rowCapacity = length-rows (tableOf rows) ∙ full-loaded (length rows) many (omega arith) in (
+        list-fault-many-rows cores rows (λ e. omega arith) many,
+        list-fault-many-rows cores (rowsOf (tableOf rows)) (λ e. omega arith) (omega arith),
+      )
+
+  -- The table that a list makes has the list's answer, for every list.
+  pub into-loaded : (cores entries : ℕ) → judgedInto cores entries (rowsOf (tableOf rows)) ≡ judgedInto cores entries rows
+  into-loaded cores entries = go (decLe (length rows) rowCapacity)
+    where
+      go : Dec (length rows ≤ rowCapacity)
+          → judgedInto cores entries (rowsOf (tableOf rows)) ≡ judgedInto cores entries rows
+      go (yes few) = ap (judgedInto cores entries) (rows-loaded few)
+      go (no l) =
+          let faulty = many-faulty cores (omega arith) in
+          into-faulty cores entries (rowsOf (tableOf rows)) (WholeList 1) (faulty .1)
+          ∙ sym (into-faulty cores entries rows (WholeList 1) (faulty .0))
