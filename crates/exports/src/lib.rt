@@ -31,7 +31,13 @@ fn load(rows: &[[u64; 3]]) -> Table
             d: Ticks(triple[1]),
             t: Ticks(triple[2]),
         };
-        table = table.with_row(row);
+        let count = table.count;
+        if count < Table::ROW_CAPACITY {
+            table.rows[count] = row;
+            table.count = count + 1;
+        } else {
+            table.count = Table::ROW_CAPACITY + 1;
+        }
         i += 1;
     }
     table

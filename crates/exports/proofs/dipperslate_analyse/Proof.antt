@@ -48,7 +48,8 @@ code-of-requires : tie.Need-code-of-requires
 code-of-requires c κs =
     let a = c .before .before .before .before .before .before .args in
     let load = c .before .before .before .before .load in
-    answer-fits (a .cores) (length (a .bounds .now)) (rowsFrom (a .rows .now)) _ (load .ensures) _ (c .before .before .answer-into .ensures .answers)
+    let into = c .before .before .answer-into in
+    answer-fits (a .cores) (length (a .bounds .now)) (rowsFrom (a .rows .now)) _ (load .ensures) _ (into .ensures .answers)
 
 same-length : tie.Need-same-length
 same-length c = search needs
@@ -57,7 +58,9 @@ returns : tie.Need-returns
 returns c =
     let a = c .before .before .before .before .before .before .before .args in
     let load = c .before .before .before .before .before .load in
-    exported (a .cores) (length (a .bounds .now)) (rowsFrom (a .rows .now)) _ (load .ensures) _ _ _ _ (c .before .before .before .answer-into .ensures) (c .code-of .ensures)
+    let into = c .before .before .before .answer-into in
+    exported (a .cores) (length (a .bounds .now)) (rowsFrom (a .rows .now)) _ (load .ensures)
+    _ _ _ _ (into .ensures) (c .code-of .ensures)
 
 pub dipperslate-analyse-spec : {M : Type 1} → statement M
 dipperslate-analyse-spec =

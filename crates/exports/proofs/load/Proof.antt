@@ -4,8 +4,11 @@ use native.Mathlib.Omega.{arith}
 use native.Mathlib.Numerals.{add-one}
 use mathlib.Core.Path.{_≡_, refl, ap, sym, _∙_}
 use mathlib.Core.List.{List, []}
-use lib.ListN.{length, getD, length-map, List·getD-map}
+use mathlib.Core.Logic.{⊎-elim}
+use lib.ListN.{length, getD, set, length-map, List·getD-map}
 use borrow.Author.Needs.{needs}
+use borrow.Author.Tests.{lt-ltb, le-ltb}
+use Rattle.quantities.specs.Limits.{rowCapacity}
 use Rattle.quantities.specs.Table.{withRow, emptyTable}
 use Rattle.quantities.specs.declared.Row.{Row}
 use Rattle.quantities.specs.declared.Table.{Table}
@@ -38,6 +41,18 @@ loading-all rows table i over now =
     let all : i ≡ length (rowsFrom rows) = omega (arith, length-map rows rowFrom) in
     now .holds ∙ ap (λ k. loaded k (rowsFrom rows)) all
 
+-- what the code leaves is the table with the row: put in place while there is room, else counted as one too many
+module _ (table next : Table) (row : Row) where
+  row-kept : table .count < rowCapacity
+      → next ≡ record { count = table .count + 1; rows = set (table .rows) (table .count) row } → next ≡ withRow table row
+  unfolding withRow
+  row-kept h e = rw (lt-ltb (table .count) rowCapacity h) e
+
+  row-counted : rowCapacity ≤ table .count
+      → next ≡ record { count = rowCapacity + 1; rows = table .rows } → next ≡ withRow table row
+  unfolding withRow
+  row-counted h e = rw (le-ltb (table .count) rowCapacity h) e
+
 abbrev Inv-loop : tie.InvT-loop
 Inv-loop rows table₀ i₀ table i = Loading rows table i
 
@@ -56,17 +71,26 @@ mul-triple c = search needs
 shared-slice-copy-out-triple : tie.Need-shared-slice-copy-out-triple Inv-loop μ-loop
 shared-slice-copy-out-triple c = search needs
 
-array-read-t12 : tie.Need-array-read-t12 Inv-loop μ-loop
-array-read-t12 c = search needs
+array-read-t14 : tie.Need-array-read-t14 Inv-loop μ-loop
+array-read-t14 c = search needs
 
-array-read-t16 : tie.Need-array-read-t16 Inv-loop μ-loop
-array-read-t16 c = search needs
+array-read-t18 : tie.Need-array-read-t18 Inv-loop μ-loop
+array-read-t18 c = search needs
 
-array-read-t20 : tie.Need-array-read-t20 Inv-loop μ-loop
-array-read-t20 c = search needs
+array-read-t22 : tie.Need-array-read-t22 Inv-loop μ-loop
+array-read-t22 c = search needs
 
-with-row-requires : tie.Need-with-row-requires Inv-loop μ-loop
-with-row-requires c κs = search needs
+mul-row : tie.Need-mul-row Inv-loop μ-loop
+mul-row c = search needs
+
+element-set-from-row : tie.Need-element-set-from-row Inv-loop μ-loop
+element-set-from-row c = search needs
+
+add-table : tie.Need-add-table Inv-loop μ-loop
+add-table c = search needs
+
+add-table-2 : tie.Need-add-table-2 Inv-loop μ-loop
+add-table-2 c = search needs
 
 add-i : tie.Need-add-i Inv-loop μ-loop
 add-i c = search needs
@@ -78,7 +102,8 @@ loop-again : tie.Need-loop-again Inv-loop μ-loop
 loop-again c =
     let rows = c .before .before .before .before .before .args .rows .now in
     let at = c .before .before .before .loop in
-    loading-next rows (at .table) _ (at .i) (omega arith) (at .inv) (c .with-row .ensures)
+    loading-next rows (at .table) (c .if1 .table) (at .i) (omega arith) (at .inv)
+    (⊎-elim (λ w. row-kept (at .table) (c .if1 .table) _ (w .0 .taken) (w .1)) (λ w. row-counted (at .table) (c .if1 .table) _ (w .0 .left) (w .1)) (c .if1 .came))
 
 returns : tie.Need-returns Inv-loop μ-loop
 returns c =
@@ -96,10 +121,13 @@ load-spec =
     loop-holds
     mul-triple
     shared-slice-copy-out-triple
-    array-read-t12
-    array-read-t16
-    array-read-t20
-    with-row-requires
+    array-read-t14
+    array-read-t18
+    array-read-t22
+    mul-row
+    element-set-from-row
+    add-table
+    add-table-2
     add-i
     loop-less
     loop-again
