@@ -24,7 +24,7 @@ use Rattle.windows.specs.Answer.{Judged, verdict, judgedAfter, judgedInto, pape
 use Rattle.windows.specs.declared.Answer.the-variants.{Shown, NotShown, Refused}
 use Rattle.windows.proofs.Judgement.{verdict-all, verdict-short}
 use Rattle.windows.specs.Judgement.{rowAt}
-use Rattle.exports.specs.Loaded.{loaded, tableOf}
+use Rattle.lentrows.specs.Loaded.{loaded, tableOf}
 
 -- checks that speak of places up to n
 abbrev PlacesTo : ℕ → List Check → Type 0

@@ -1,4 +1,2 @@
--- The exported function: the table that its rows make, what is answered and written, and the answer as one number.
-pub mod Loaded
-pub mod Lent
+-- What the exported function takes and answers.
 pub mod Exported

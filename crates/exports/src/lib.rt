@@ -1,14 +1,10 @@
 //! The analysis for callers in C: rows as triples of numbers, bounds into a lent list, the answer as one number.
 ghost use mathlib.Core.Path.{_≡_};
-ghost use Prim.Native.Nat.{_≤_, _<_};
+ghost use Prim.Native.Nat.{_<_};
 ghost use lib.ListN.{length};
-ghost use Rattle.quantities.specs.Limits.{rowCapacity};
-ghost use Rattle.quantities.specs.Table.{rowsOf};
 ghost use Rattle.windows.specs.Answer.{judgedInto, paperOf};
-ghost use Rattle.exports.specs.Loaded.{tableOf};
-ghost use Rattle.exports.specs.Lent.{LentAnalysis, firstOf, shownBy};
+ghost use Rattle.lentrows.specs.Loaded.{tableOf};
 ghost use Rattle.exports.specs.Exported.{rowsFrom, placeLimit, coded, codeOf, FitsCode, Exported};
-use quantities::Checked;
 use quantities::Fault;
 use quantities::Row;
 use quantities::Table;
@@ -18,7 +14,8 @@ use windows::Answer;
 // One more than the largest place that a code has room for.
 const PLACE_LIMIT: u64 = 4_294_967_296;
 
-// The table of a list of triples: C, D and T of each row.
+// The table of a list of triples: C, D and T of each row. It does in place what Table::with_row does, since a table
+// that is handed on by value is copied, and the copies would take longer than the search of a short list.
 fn load(rows: &[[u64; 3]]) -> Table
     ensures { λ r. ⌜ r ≡ tableOf (rowsFrom (now (rows .entry))) ⌝ }
 {
@@ -41,57 +38,6 @@ fn load(rows: &[[u64; 3]]) -> Table
         i += 1;
     }
     table
-}
-
-// How many rows of so many have a bound where this is the answer.
-fn shown_by(answer: Answer, count: usize) -> usize
-    ensures { λ r. ⌜ r ≡ shownBy answer count ⌝ }
-{
-    match answer {
-        Answer::Shown => count,
-        Answer::NotShown(place) => {
-            if place == 0 {
-                return 0;
-            }
-            place - 1
-        }
-        Answer::Refused(_) => 0,
-    }
-}
-
-// Writes the first n of the bounds found into the first entries of a lent list.
-fn write_bounds(found: [Ticks; Table::ROW_CAPACITY], n: usize, bounds: &mut [u64])
-    requires { ⌜ (n ≤ rowCapacity) × (n ≤ length (now bounds)) ⌝ }
-    ensures { λ _. ⌜ now (bounds .exit) ≡ firstOf n found (now (bounds .entry)) ⌝ }
-{
-    let mut i: usize = 0;
-    while i < n {
-        let bound = found[i];
-        bounds[i] = bound.0;
-        i += 1;
-    }
-}
-
-// The answer to a table, with its bounds in the first entries of a lent list: checks 1 to 6, then 7, then the search.
-fn answer_into(cores: u32, table: Table, bounds: &mut [u64]) -> Answer
-    ensures { λ r. ⌜ LentAnalysis (judgedInto cores (length (now (bounds .entry))) (rowsOf table)) (now (bounds .entry)) (now (bounds .exit)) r ⌝ }
-{
-    let checked = table.check(cores);
-    match checked {
-        Checked::Sound => {}
-        Checked::Faulty(fault) => {
-            return Answer::Refused(fault);
-        }
-    }
-    if bounds.len() < table.count {
-        return Answer::Refused(Fault::WholeList(7));
-    }
-    let analysis = analysis::analyse(cores, table);
-    let answer = analysis.answer;
-    let found = analysis.bounds;
-    let shown = shown_by(answer, table.count);
-    write_bounds(found, shown, bounds);
-    answer
 }
 
 // Number and place of document 01 as one number.
@@ -123,6 +69,6 @@ pub extern "C" fn dipperslate_analyse(cores: u32, rows: &[[u64; 3]], bounds: &mu
     ensures { λ r. ⌜ Exported (judgedInto cores (length (now (bounds .entry))) (rowsFrom (now (rows .entry)))) (now (bounds .entry)) (now (bounds .exit)) r ⌝ }
 {
     let table = load(rows);
-    let answer = answer_into(cores, table, bounds);
+    let answer = lentrows::answer_into(cores, table, bounds);
     code_of(answer)
 }

@@ -10,10 +10,10 @@ use Rattle.quantities.specs.declared.Table.{Table}
 use Rattle.quantities.proofs.Rows.{length-rows}
 use Rattle.windows.specs.Answer.{Judged, judgedInto, paperOf, written}
 use Rattle.windows.specs.declared.Answer.{Answer}
-use Rattle.exports.specs.Loaded.{tableOf}
-use Rattle.exports.specs.Lent.{LentAnalysis}
+use Rattle.lentrows.specs.Loaded.{tableOf}
+use Rattle.lentrows.specs.Lent.{LentAnalysis}
 use Rattle.exports.specs.Exported.{rowsFrom, codeOf, FitsCode, Exported}
-use Rattle.exports.proofs.Loaded.{into-loaded}
+use Rattle.lentrows.proofs.Loaded.{into-loaded}
 use Rattle.exports.proofs.Places.{into-place, loaded-count}
 use borrow.Author.Needs.{needs}
 use Rattle.exports.proofs.dipperslate_analyse.Statement.{statement}

@@ -12,7 +12,7 @@ use Rattle.quantities.specs.Limits.{rowCapacity}
 use Rattle.quantities.specs.Table.{withRow, emptyTable}
 use Rattle.quantities.specs.declared.Row.{Row}
 use Rattle.quantities.specs.declared.Table.{Table}
-use Rattle.exports.specs.Loaded.{loaded, tableOf}
+use Rattle.lentrows.specs.Loaded.{loaded, tableOf}
 use Rattle.exports.specs.Exported.{rowFrom, rowsFrom}
 use Rattle.exports.proofs.load.Statement.{statement}
 use Rattle.exports.proofs.load.Tie as tie
