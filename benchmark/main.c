@@ -14,10 +14,11 @@ static const uint64_t UNTOUCHED = 0xdeadbeefdeadbeef;
 
 typedef uint64_t engine(uint32_t, const uint64_t (*)[3], size_t, uint64_t *, size_t);
 
+/* The time that this process has had on a processor: what else runs on the machine does not count. */
 static double now(void)
 {
     struct timespec t;
-    clock_gettime(CLOCK_MONOTONIC, &t);
+    clock_gettime(CLOCK_PROCESS_CPUTIME_ID, &t);
     return (double)t.tv_sec + (double)t.tv_nsec * 1e-9;
 }
 
@@ -79,15 +80,20 @@ static void print_answer(uint64_t x, char *out, size_t size)
     else snprintf(out, size, "%u at %u", DIPPERSLATE_NUMBER(x), DIPPERSLATE_PLACE(x));
 }
 
+/* what the heads of the two columns of times say of them: nothing, or that they were run under an emulator */
+static const char *note = "";
+
 static void heading(const char *what)
 {
-    printf("\n| %s | Answer | Proved engine | Plain C | Ratio |\n|---|---|---|---|---|\n", what);
+    printf("\n| %s | Answer | Proved engine%s | Plain C%s | Ratio |\n|---|---|---|---|---|\n", what, note, note);
 }
 
 static void line(const char *name, const char *said, struct times t)
 {
-    if (t.proved < 1e-3) printf("| %s | %s | %.2f µs | %.2f µs | %.2f |\n", name, said, t.proved * 1e6, t.plain * 1e6, t.proved / t.plain);
-    else printf("| %s | %s | %.2f ms | %.2f ms | %.2f |\n", name, said, t.proved * 1e3, t.plain * 1e3, t.proved / t.plain);
+    const char *unit = t.proved < 1e-3 ? "µs" : "ms";
+    double scale = t.proved < 1e-3 ? 1e6 : 1e3;
+    printf("| %s | %s | %.2f %s | %.2f %s | %.2f |\n", name, said, t.proved * scale, unit, t.plain * scale, unit,
+           t.proved / t.plain);
 }
 
 /* Lists of every kind, refused ones too, in which the engines have to agree. */
@@ -134,7 +140,7 @@ static void near_full_load(double seconds)
     family("load 97 % of the cores", full, 20, seconds);
     family("the largest load that is still shown", last, 20, seconds);
     printf("\nThe largest ratio of one of these lists: %.2f\n",
-           larger_of(largest_ratio(full, 20, seconds / 20), largest_ratio(last, 20, seconds / 20)));
+           larger_of(largest_ratio(full, 20, seconds / 5), largest_ratio(last, 20, seconds / 5)));
 }
 
 static void slow(double seconds)
@@ -164,6 +170,7 @@ static void growth(double seconds)
 int main(int count, char **words)
 {
     double seconds = count > 1 ? atof(words[1]) : 1.0;
+    if (count > 2) note = words[2];
     printf("Same answers and bounds on %zu lists.\n", compared());
     near_full_load(seconds);
     slow(seconds);

@@ -1,0 +1,113 @@
+-- The place of an answer is small: at most one past the rows, and a loaded table counts at most one row too many.
+use Prim.Native.Nat.{ℕ, zero, suc, _+_, _≤_, _<_}
+use native.Mathlib.Omega.{arith}
+use native.Mathlib.Decide.{decLe, ℕ-discrete as decEq}
+use mathlib.Core.Path.{_≡_, refl, sym, ap, _∙_}
+use mathlib.Core.Bool.{Bool, true, false}
+use mathlib.Core.List.{List, [], _∷_, _++_}
+use mathlib.Core.Option.{Option, none, some}
+use lib.ListN.{length}
+use borrow.Author.Tests.{lt-ltb, le-ltb}
+use Rattle.laws.specs.Each.{Each}
+use Rattle.laws.proofs.Lists.{each-append}
+use Rattle.quantities.specs.Limits.{rowCapacity}
+use Rattle.quantities.specs.Table.{rowsOf, emptyTable, withRow}
+use Rattle.quantities.specs.Checks.{Check, rowChecks, rowsChecks, listChecks, roomChecks, firstFailing, faultFrom, lentFault}
+use Rattle.quantities.specs.declared.Row.{Row}
+use Rattle.quantities.specs.declared.Table.{Table}
+use Rattle.quantities.specs.declared.Fault.{Fault}
+use Rattle.quantities.specs.declared.Fault.the-variants.{WholeList, OneRow}
+use Rattle.quantities.proofs.Rows.{length-rows}
+use Rattle.windows.specs.Bound.{boundsBelow, boundOf}
+use Rattle.windows.specs.Choice.{Bounded, bounded}
+use Rattle.windows.specs.Answer.{Judged, verdict, judgedAfter, judgedInto, paperOf}
+use Rattle.windows.specs.declared.Answer.the-variants.{Shown, NotShown, Refused}
+use Rattle.windows.proofs.Judgement.{verdict-all, verdict-short}
+use Rattle.windows.specs.Judgement.{rowAt}
+use Rattle.lentrows.specs.Loaded.{loaded, tableOf}
+
+-- checks that speak of places up to n
+abbrev PlacesTo : ℕ → List Check → Type 0
+PlacesTo n = Each (λ one. one .place ≤ n)
+
+rows-places : (n place : ℕ) (rows : List Row) → place + length rows ≤ suc n → PlacesTo n (rowsChecks place rows)
+unfolding rowsChecks rowChecks
+rows-places n place [] h = tt
+rows-places n place (row ∷ rows) h =
+    let here : place ≤ n = omega arith in
+    (here, (here, (here, (here, rows-places n (suc place) rows (omega arith)))))
+
+-- the fault of such checks has such a place
+fault-place : (n : ℕ) (checks : List Check) (fault : Fault) → PlacesTo n checks
+    → faultFrom (firstFailing checks) ≡ some fault → paperOf (Refused fault) .place ≤ n
+unfolding firstFailing faultFrom paperOf
+fault-place n [] fault all e = let z : _≡_ {A = ℕ} 0 1 = cc in absurd (omega arith)
+fault-place n (one ∷ checks) fault all e = go (one .fails) refl (fault-place n checks fault (all .1))
+  where
+    failed : (place : ℕ) → one .place ≡ place → faultFrom (some one) ≡ some fault → paperOf (Refused fault) .place ≤ n
+    failed zero q f =
+        let whole : some (WholeList (one .number)) ≡ some fault = rw (q, faultFrom) at f in
+        let is : fault ≡ WholeList (one .number) = cc in
+        rw is (omega arith)
+    failed (suc place) q f =
+        let row : some (OneRow (one .number) (suc place)) ≡ some fault = rw (q, faultFrom) at f in
+        let is : fault ≡ OneRow (one .number) (suc place) = cc in
+        rw is (omega (arith, all .0))
+
+    go : (t : Bool) → one .fails ≡ t → (faultFrom (firstFailing checks) ≡ some fault → paperOf (Refused fault) .place ≤ n)
+        → paperOf (Refused fault) .place ≤ n
+    go true q later = failed (one .place) refl (rw (q, firstFailing) at e)
+    go false q later = later (rw (q, firstFailing) at e)
+
+lent-places : (n cores entries : ℕ) (rows : List Row) → length rows ≤ n
+    → PlacesTo n (listChecks cores rows ++ roomChecks entries rows)
+unfolding listChecks roomChecks
+lent-places n cores entries rows h =
+    each-append (λ (one : Check). one .place ≤ n) (listChecks cores rows) (roomChecks entries rows)
+    (omega arith, (omega arith, rows-places n 1 rows (omega arith)))
+    (omega arith, tt)
+
+-- there are no more bounds than rows
+bounds-few : (M : ℕ) (above : List Bounded) (rows : List Row) → length (boundsBelow M above rows) ≤ length rows
+unfolding boundsBelow
+bounds-few M above [] = omega arith
+bounds-few M above (row ∷ rows) = go (boundOf M above row) (λ b. bounds-few M (bounded row b ∷ above) rows)
+  where
+    go : (found : Option ℕ) → ((b : ℕ) → length (boundsBelow M (bounded row b ∷ above) rows) ≤ length rows)
+        → length {A = ℕ} (elim found [ none ↦ [] | some b ↦ b ∷ boundsBelow M (bounded row b ∷ above) rows ]) ≤ suc (length rows)
+    go none below = omega arith
+    go (some b) below = omega (arith, below b)
+
+verdict-place : (count : ℕ) (bounds : List ℕ) → paperOf (verdict count bounds .answer) .place ≤ suc (length bounds)
+unfolding paperOf
+verdict-place count bounds =
+    elim (decEq (length bounds) count) [
+      | yes e ↦ rw (verdict-all count bounds e) (omega arith)
+      | no e ↦ rw (verdict-short count bounds e) (omega arith)
+    ]
+
+-- The place of an answer is at most one past the rows.
+pub into-place : (cores entries : ℕ) (rows : List Row)
+    → paperOf (judgedInto cores entries rows .answer) .place ≤ suc (length rows)
+unfolding judgedInto judgedAfter lentFault
+into-place cores entries rows = go (lentFault cores entries rows) refl
+  where
+    go : (found : Option Fault) → lentFault cores entries rows ≡ found
+        → paperOf (judgedAfter found cores rows .answer) .place ≤ suc (length rows)
+    go (some fault) e =
+        fault-place (suc (length rows)) (listChecks cores rows ++ roomChecks entries rows) fault
+        (lent-places (suc (length rows)) cores entries rows (omega arith)) e
+    go none e = omega (arith, verdict-place (length rows) (boundsBelow cores [] rows), bounds-few cores [] rows)
+
+-- A loaded table counts at most one row too many.
+pub loaded-count : (n : ℕ) (rows : List Row) → loaded n rows .count ≤ suc rowCapacity
+unfolding loaded emptyTable withRow
+loaded-count zero rows = omega arith
+loaded-count (suc n) rows = go (loaded n rows) (rowAt rows n)
+  where
+    go : (table : Table) (row : Row) → withRow table row .count ≤ suc rowCapacity
+    go table row =
+        elim (decLe rowCapacity (table .count)) [
+          | yes h ↦ rw (le-ltb (table .count) rowCapacity h) (omega arith)
+          | no h ↦ rw (lt-ltb (table .count) rowCapacity (omega arith)) (omega arith)
+        ]

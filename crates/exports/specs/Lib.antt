@@ -1,0 +1,2 @@
+-- What the exported function takes and answers.
+pub mod Exported
