@@ -1,0 +1,2 @@
+-- Laws of calls on a lent bench.
+pub mod Lent
