@@ -54,13 +54,13 @@ fn shown_by(answer: Answer, count: usize) -> usize
     }
 }
 
-// Writes the first n of the bounds found into the first entries of a lent list.
-fn write_bounds(found: [Ticks; Table::ROW_CAPACITY], n: usize, bounds: &mut [u64])
-    requires { ⌜ (n ≤ rowCapacity) × (n ≤ length (now bounds)) ⌝ }
-    ensures { λ _. ⌜ now (bounds .exit) ≡ firstOf n found (now (bounds .entry)) ⌝ }
+// Writes the bounds of the rows shown into the first entries of a lent list.
+fn write_bounds(found: [Ticks; Table::ROW_CAPACITY], shown: usize, bounds: &mut [u64])
+    requires { ⌜ (shown ≤ rowCapacity) × (shown ≤ length (now bounds)) ⌝ }
+    ensures { λ _. ⌜ now (bounds .exit) ≡ firstOf shown found (now (bounds .entry)) ⌝ }
 {
     let mut i: usize = 0;
-    while i < n {
+    while i < shown {
         let bound = found[i];
         bounds[i] = bound.0;
         i += 1;

@@ -86,7 +86,7 @@ returns : tie.Need-returns Inv-loop μ-loop
 returns c =
     let a = c .before .before .args in
     let l = c .before .loop in
-    let over : l .i ≡ a .n = omega (arith, l .inv .within) in
+    let over : l .i ≡ a .shown = omega (arith, l .inv .within) in
     l .inv .holds ∙ ap (λ (k : ℕ). firstOf k (a .t1) (a .bounds .now)) over
 
 pub write-bounds-spec : {M : Type 1} → statement M
