@@ -106,9 +106,11 @@ struct list slow_list(size_t index, const char **name)
         "32 rows, M 6: 6 × each of (1,2,2) (1,3,3) (1,7,7) (1,43,43) (1,1807,1807), 2 × (1,10⁶,10⁶)",
         "32 rows, M 16: 30 × (1,2,2), (999999,10⁶,10⁶), (1,10⁶,10⁶)",
         "32 rows, M 1: (1,2,2) (1,3,3) (1,7,7) (1,43,43) (1,1900,1900), 27 × (1,10⁶,10⁶)",
-        "32 rows, M 2: 2 × each of (1,2,2) (1,3,3) (1,7,7) (1,43,43) (1,1900,1900), 22 × (1,10⁶,10⁶)",
+        "32 rows, M 2: 2 × each of (1,2,2) (1,3,3) (1,7,7) (1,43,43) (1,1840,1840), 22 × (1,10⁶,10⁶)",
+        "32 rows, M 3: 3 × each of (1,2,2) (1,3,3) (1,7,7) (1,43,43) (1,1826,1826), 17 × (1,10⁶,10⁶)",
+        "32 rows, M 4: 4 × each of (1,2,2) (1,3,3) (1,7,7) (1,43,43) (1,1818,1818), 12 × (1,10⁶,10⁶)",
     };
-    static const uint32_t cores[SLOW_LISTS] = {1, 1, 2, 1, 1, 2, 16, 16, 6, 16, 1, 2};
+    static const uint32_t cores[SLOW_LISTS] = {1, 1, 2, 1, 1, 2, 16, 16, 6, 16, 1, 2, 3, 4};
     struct list l = {.cores = cores[index]};
     *name = names[index];
     switch (index) {
@@ -123,7 +125,9 @@ struct list slow_list(size_t index, const char **name)
     case 8: add_close(&l, 6, 1807); add(&l, 1, 1, GAP, GAP); break;
     case 9: add(&l, 30, 1, 2, 2); add(&l, 1, 999999, GAP, GAP); break;
     case 10: add_close(&l, 1, 1900); add(&l, 26, 1, GAP, GAP); break;
-    default: add_close(&l, 2, 1900); add(&l, 21, 1, GAP, GAP); break;
+    case 11: add_close(&l, 2, 1840); add(&l, 21, 1, GAP, GAP); break;
+    case 12: add_close(&l, 3, 1826); add(&l, 16, 1, GAP, GAP); break;
+    default: add_close(&l, 4, 1818); add(&l, 11, 1, GAP, GAP); break;
     }
     add(&l, 1, 1, GAP, GAP);
     return l;

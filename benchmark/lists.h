@@ -5,7 +5,7 @@
 #include <stddef.h>
 #include <stdint.h>
 
-enum { MOST_ROWS = 34, SLOW_LISTS = 12 };
+enum { MOST_ROWS = 34, SLOW_LISTS = 14 };
 
 struct list {
     uint32_t cores;

@@ -96,16 +96,17 @@ static void line(const char *name, const char *said, struct times t)
            t.proved / t.plain);
 }
 
-/* Lists of every kind, refused ones too, in which the engines have to agree. */
-static size_t compared(void)
+/* Lists of every kind, refused ones too, in which the engines have to agree; says how many have each number. */
+static void compare(void)
 {
-    size_t n = 0;
+    size_t with[9] = {0};
     for (uint64_t seed = 1; seed <= 20000; seed++) {
         struct list l = any_list(seed);
-        agreed(&l, seed % 7 == 0 ? seed % ENTRIES : ENTRIES);
-        n++;
+        with[DIPPERSLATE_NUMBER(agreed(&l, seed % 7 == 0 ? seed % ENTRIES : ENTRIES))]++;
     }
-    return n;
+    printf("Same answers and bounds on 20000 lists: %zu all shown", with[0]);
+    for (size_t i = 1; i < 9; i++) printf(", %zu with %zu", with[i], i);
+    printf("\n");
 }
 
 static double largest_ratio(const struct list *lists, size_t n, double seconds)
@@ -171,7 +172,7 @@ int main(int count, char **words)
 {
     double seconds = count > 1 ? atof(words[1]) : 1.0;
     if (count > 2) note = words[2];
-    printf("Same answers and bounds on %zu lists.\n", compared());
+    compare();
     near_full_load(seconds);
     slow(seconds);
     growth(seconds);
