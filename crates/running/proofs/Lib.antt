@@ -13,3 +13,4 @@ pub mod Calls
 pub mod Below
 pub mod Running
 pub mod Replayed
+pub mod Parts
