@@ -20,7 +20,8 @@ use Rattle.quantities.proofs.Sound.{sound-list-means}
 use Rattle.windows.specs.Answer.{judgedAfter, judged, judgedInto, written, paperOf}
 use Rattle.windows.specs.declared.Answer.the-variants.{Refused}
 use Rattle.windows.proofs.Judgement.{judged-faulty, judged-means, one-judgement}
-use Rattle.sheet.proofs.Promises.{whole-exactly, each-row-once, priorities-rise, table-in-order, no-table-refused}
+use Rattle.sheet.proofs.Promises.{whole-exactly, faulty-sheet-turned-away, refused-by-first-fault, no-table-refused}
+use Rattle.sheet.proofs.Promises.{each-row-once, priorities-rise, table-in-order}
 use Rattle.bench.specs.declared.Bench.{Bench}
 use Rattle.bench.specs.declared.Refusal.{Refusal}
 use Rattle.bench.specs.declared.Outcome.the-variants.{Taken}
@@ -147,6 +148,8 @@ pub demand-1 : Demand1
 demand-1 =
     record {
       sheets = whole-exactly;
+      faulty-sheets = faulty-sheet-turned-away;
+      refused-sheets = refused-by-first-fault;
       no-table = no-table-refused;
       lists = faulty-list-turned-away;
       lent-lists = lent-list-left-alone;

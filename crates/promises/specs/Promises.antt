@@ -10,7 +10,8 @@ use Rattle.quantities.specs.Table.{rowsOf}
 use Rattle.quantities.specs.Checks.{Check, listChecks, roomChecks, FirstFailing, SoundList}
 use Rattle.windows.specs.Answer.{Judged, judged, judgedInto, written, Paper, paperOf}
 use Rattle.windows.specs.Judgement.{Judgement}
-use Rattle.sheet.specs.Promises.{WholeExactly, EachRowOnce, PrioritiesRise, TableInOrder, NoTableRefused}
+use Rattle.sheet.specs.Promises.{WholeExactly, FaultySheetTurnedAway, RefusedByFirstFault, NoTableRefused}
+use Rattle.sheet.specs.Promises.{EachRowOnce, PrioritiesRise, TableInOrder}
 use Rattle.bench.specs.declared.Bench.{Bench}
 use Rattle.bench.specs.declared.Refusal.{Refusal}
 use Rattle.bench.specs.declared.Outcome.the-variants.{Taken, Refused}
@@ -70,11 +71,12 @@ OpenedForSound =
     → (SoundList cores (rowsOf table) → opened cores table ≡ some (emptyBench cores table))
     × ((b : Bench) → opened cores table ≡ some b → SoundList cores (rowsOf table))
 
--- Demand 1. Every sheet, row list and bench call is answered; a faulty one is turned away by number and place, in the fixed
--- order of checks (for a sheet's records that of `recordChecks`, by which `readOf` goes), and every list or bench then holds
--- exactly what the rules say.
+-- Demand 1. Every sheet, row list and bench call is answered; a faulty one is turned away by number and place,
+-- in the fixed order of checks, and every list or bench then holds exactly what the rules say.
 pub record Demand1 : Type 0 where
   pub sheets : WholeExactly
+  pub faulty-sheets : FaultySheetTurnedAway
+  pub refused-sheets : RefusedByFirstFault
   pub no-table : NoTableRefused
   pub lists : FaultyListTurnedAway
   pub lent-lists : LentListLeftAlone

@@ -11,13 +11,14 @@ use Rattle.quantities.specs.declared.Micros.{Micros}
 use Rattle.sheet.specs.Entries.{entriesOf, tableOf, sheetOf, boardSheet, Rising}
 use Rattle.sheet.specs.Reader.{noSheet, refused, whole, readOf}
 use Rattle.sheet.specs.Whole.{entriesOn, coresOn, tickOn, MadeOf}
-use Rattle.sheet.specs.Promises.{WholeExactly, BoardAnswered, EachRowOnce, PrioritiesRise, TableInOrder, AnyOrder, NoTableRefused, AtMost550, First1024, OneOutcome}
+use Rattle.sheet.specs.Promises.{WholeExactly, BoardAnswered, EachRowOnce, PrioritiesRise, TableInOrder, AnyOrder, NoTableRefused, FaultySheetTurnedAway, RefusedByFirstFault, AtMost550, First1024, OneOutcome}
 use Rattle.sheet.specs.declared.Entry.{Entry}
 use Rattle.sheet.specs.declared.Sheet.{Sheet}
 use Rattle.sheet.specs.declared.Verdict.{Verdict}
 use Rattle.sheet.specs.declared.Verdict.the-variants.{Sound, Refused}
 use Rattle.sheet.specs.declared.Outcome.{Outcome}
 use Rattle.sheet.proofs.Sheets.{board-sheet, entries-of-sheet}
+use Rattle.sheet.proofs.Faults.{first-fault-refused, refused-first-fault}
 use Rattle.sheet.proofs.Tables.{table-rows}
 use Rattle.sheet.proofs.Whole.{length-entries}
 use Rattle.sheet.proofs.Sound.{sound-made}
@@ -89,6 +90,12 @@ any-order = rows-in-any-order
 
 pub no-table-refused : NoTableRefused
 no-table-refused = refused-no-table
+
+pub faulty-sheet-turned-away : FaultySheetTurnedAway
+faulty-sheet-turned-away = first-fault-refused
+
+pub refused-by-first-fault : RefusedByFirstFault
+refused-by-first-fault = refused-first-fault
 
 pub at-most-550 : AtMost550
 at-most-550 = sound-short

@@ -4,6 +4,7 @@ pub mod Records
 pub mod Entries
 pub mod Checks
 pub mod Reader
+pub mod Faults
 pub mod Whole
 pub mod Promises
 pub mod Cases

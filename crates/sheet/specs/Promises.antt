@@ -4,15 +4,18 @@ use mathlib.Core.Path.{_≡_}
 use mathlib.Core.List.{List, map}
 use lib.ListN.{length, take}
 use Rattle.laws.specs.Permuted.{Permuted}
+use Rattle.quantities.specs.Checks.{Check}
 use Rattle.quantities.specs.Table.{rowsOf}
 use Rattle.sheet.specs.Entries.{entriesOf, tableOf, Rising}
 use Rattle.sheet.specs.Reader.{refused, readOf}
+use Rattle.sheet.specs.Faults.{FirstFault, FaultAt}
 use Rattle.sheet.specs.Whole.{entriesOn, coresOn, tickOn, WholeSheet, bytesOf, MadeOf}
 use Rattle.sheet.specs.declared.Entry.{Entry}
 use Rattle.sheet.specs.declared.Verdict.the-variants.{Sound, Refused}
 use Rattle.sheet.specs.declared.Outcome.{Outcome}
 
--- A sheet is without fault exactly when it is a board record, rows in any order and an end record, as the rules ask.
+-- A sheet is without fault exactly when it is a board record, rows in any order and an end record,
+-- as the rules ask.
 abbrev pub WholeExactly : Type 0
 WholeExactly =
     (sheet : List ℕ)
@@ -22,7 +25,8 @@ WholeExactly =
 abbrev pub BoardAnswered : Type 0
 BoardAnswered =
     (sheet : List ℕ) (made : MadeOf sheet)
-    → (readOf sheet .sheet .cores ≡ coresOn (made .board)) × (readOf sheet .sheet .tick ≡ tickOn (made .board))
+    → (readOf sheet .sheet .cores ≡ coresOn (made .board))
+    × (readOf sheet .sheet .tick ≡ tickOn (made .board))
 
 -- Its rows are exactly the sheet's rows, each once, with their labels and their times in ticks.
 abbrev pub EachRowOnce : Type 0
@@ -38,19 +42,32 @@ PrioritiesRise = (sheet : List ℕ) → Rising (entriesOf (readOf sheet .sheet))
 abbrev pub TableInOrder : Type 0
 TableInOrder =
     (sheet : List ℕ)
-    → rowsOf (tableOf (readOf sheet .sheet)) ≡ map (λ (entry : Entry). entry .row) (entriesOf (readOf sheet .sheet))
+    → rowsOf (tableOf (readOf sheet .sheet))
+    ≡ map (λ (entry : Entry). entry .row) (entriesOf (readOf sheet .sheet))
 
 -- Permuting the row records of a sheet without fault leaves its answer the same.
 abbrev pub AnyOrder : Type 0
 AnyOrder =
     (board : List ℕ) (rows others : List (List ℕ)) (end : List ℕ)
-    → Permuted rows others → WholeSheet board rows end → readOf (bytesOf board others end) ≡ readOf (bytesOf board rows end)
+    → Permuted rows others → WholeSheet board rows end
+    → readOf (bytesOf board others end) ≡ readOf (bytesOf board rows end)
 
 -- A refused sheet yields no table.
 abbrev pub NoTableRefused : Type 0
 NoTableRefused =
     (sheet : List ℕ) (number place : ℕ)
     → readOf sheet .verdict ≡ Refused number place → readOf sheet ≡ refused number place
+
+-- A sheet with a fault is turned away by its first one, with the number and the place of the failing check.
+abbrev pub FaultySheetTurnedAway : Type 0
+FaultySheetTurnedAway =
+    (sheet : List ℕ) (one : Check) → FirstFault sheet one → readOf sheet ≡ refused (one .number) (one .place)
+
+-- And a sheet that is refused has that fault.
+abbrev pub RefusedByFirstFault : Type 0
+RefusedByFirstFault =
+    (sheet : List ℕ) (number place : ℕ)
+    → readOf sheet .verdict ≡ Refused number place → FaultAt sheet number place
 
 -- A sheet without fault is at most 550 bytes.
 abbrev pub AtMost550 : Type 0
