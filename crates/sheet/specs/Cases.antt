@@ -7,7 +7,16 @@ use Rattle.quantities.specs.Row.{rowOf}
 use Rattle.quantities.specs.declared.Row.{Row}
 use Rattle.sheet.specs.Bytes.{numberAfter, field}
 use Rattle.sheet.specs.Records.{recordLength, rowFields, wholeRecord, recordOn, kindOf, isEnd}
-use Rattle.sheet.specs.Entries.{ticksOf, entryOf, noEntry, boardSheet, entriesOf, used, inserted, withEntry}
+use Rattle.sheet.specs.Entries.{
+  ticksOf,
+  entryOf,
+  noEntry,
+  boardSheet,
+  entriesOf,
+  used,
+  inserted,
+  withEntry,
+}
 use Rattle.sheet.specs.Checks.{misplaced, boardChecks, rowChecks, endChecks, recordChecks, verdictOf}
 use Rattle.sheet.specs.Reader.{noSheet, newReading, afterRecord, refused, whole, readFrom, readOf}
 use Rattle.quantities.specs.Checks.{firstFailing}
@@ -17,7 +26,9 @@ use Rattle.sheet.specs.declared.Outcome.{Outcome}
 
 -- the answer of a sheet, with all that it rests on opened so that it computes
 unfoldable answer : List ℕ → Outcome
-unfolding readOf readFrom newReading noSheet boardSheet recordOn recordLength kindOf isEnd wholeRecord rowFields field numberAfter recordChecks misplaced boardChecks rowChecks endChecks verdictOf firstFailing afterRecord withEntry inserted entriesOf entryOf ticksOf used whole refused
+unfolding readOf readFrom newReading noSheet boardSheet recordOn recordLength kindOf isEnd wholeRecord
+    rowFields field numberAfter recordChecks misplaced boardChecks rowChecks endChecks verdictOf firstFailing
+    afterRecord withEntry inserted entriesOf entryOf ticksOf used whole refused
 answer sheet = readOf sheet
 
 abbrev entry : ℕ → ℕ → Row → Entry
@@ -44,7 +55,10 @@ sheet-of-document : answer (board ++ first ++ tenth ++ second ++ (3 ∷ 3 ∷ []
       tick = record { 0 = 100 };
       count = 3;
       entries =
-          entry 1 101 (rowOf 2 5 5) ∷ entry 2 102 (rowOf 3 8 8) ∷ entry 10 110 (rowOf 2 4 10) ∷ replicate 29 noEntry;
+          entry 1 101 (rowOf 2 5 5)
+          ∷ entry 2 102 (rowOf 3 8 8)
+          ∷ entry 10 110 (rowOf 2 4 10)
+          ∷ replicate 29 noEntry;
     })
 unfolding answer
 sheet-of-document = refl
@@ -62,7 +76,8 @@ kind-seven : (rest : List ℕ) → answer (7 ∷ rest) ≡ refused 12 0
 unfolding answer
 kind-seven rest = refl
 
--- a row record that is cut short is misplaced before it is cut; a second board; a board that is cut short
+-- a row record first, misplaced before it is cut short; a second board; a later row record that is cut short;
+-- no end record
 cut-row-first : answer (2 ∷ 0 ∷ []) ≡ refused 13 0
 unfolding answer
 cut-row-first = refl
@@ -96,10 +111,11 @@ byte-after : answer (board ++ first ++ (3 ∷ 1 ∷ 3 ∷ [])) ≡ refused 18 23
 unfolding answer
 byte-after = refl
 
--- a priority of 0, and one of 1000; a label may repeat, and so may times
+-- a row record with a priority of these two bytes, the label 7 and times of 0 µs
 abbrev rowWith : ℕ → ℕ → List ℕ
 rowWith high low = 2 ∷ 0 ∷ 7 ∷ high ∷ low ∷ replicate 12 0
 
+-- a priority of 0, and one of 1000
 no-priority : answer (board ++ rowWith 0 0) ≡ refused 16 4
 unfolding answer
 no-priority = refl
@@ -108,12 +124,12 @@ priority-1000 : answer (board ++ rowWith 0 1 ++ rowWith 3 232) ≡ refused 16 21
 unfolding answer
 priority-1000 = refl
 
--- so many rows, of priority 33, 32, ..
+-- so many rows, with the priorities from that number down to 1
 abbrev rowsDown : ℕ → List ℕ
 rowsDown zero = []
 rowsDown (suc n) = rowWith 0 (suc n) ++ rowsDown n
 
--- 32 rows are read, a 33rd is one too many
+-- 32 rows are read, though they share a label and their times; a 33rd is one too many
 rows-32 : answer (board ++ rowsDown 32 ++ (3 ∷ 32 ∷ [])) .verdict ≡ Sound
 unfolding answer
 rows-32 = refl

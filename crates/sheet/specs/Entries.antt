@@ -16,7 +16,8 @@ use Rattle.sheet.specs.declared.RowFields.{RowFields}
 use Rattle.sheet.specs.declared.Entry.{Entry}
 use Rattle.sheet.specs.declared.Sheet.{Sheet}
 
--- a time in ticks of a length: whole division, the remainder dropped
+-- a time in ticks of a length: whole division, the remainder dropped; a length of 0 gives 0, as `/` does, and
+-- no row is read at it, since 19 turns such a board away
 unfoldable pub ticksOf : Micros → Micros → Ticks
 ticksOf tick time = record { 0 = time .0 / tick .0 }
 
@@ -26,7 +27,12 @@ entryOf tick fields =
     record {
       priority = fields .priority;
       label = fields .label;
-      row = record { c = ticksOf tick (fields .c); d = ticksOf tick (fields .d); t = ticksOf tick (fields .t) };
+      row =
+          record {
+            c = ticksOf tick (fields .c);
+            d = ticksOf tick (fields .d);
+            t = ticksOf tick (fields .t);
+          };
     }
 
 -- what stands at a place of a sheet that holds no row
@@ -47,8 +53,8 @@ unfoldable pub used : ℕ → List Entry → Bool
 used priority [] = false
 used priority (entry ∷ entries) = eqb (entry .priority) priority || used priority entries
 
--- the entries with a new one at its place by number: the new one takes the place of the first entry with a larger
--- number, which goes on in the same way
+-- the entries with a new one at its place by number: the new one takes the place of the first entry
+-- with a larger number, which goes on in the same way
 unfoldable pub inserted : Entry → List Entry → List Entry
 inserted new [] = new ∷ []
 inserted new (entry ∷ entries) =

@@ -44,8 +44,8 @@ refused number place = record { verdict = Refused number place; sheet = noSheet 
 unfoldable pub whole : Sheet → Outcome
 whole sheet = record { verdict = Sound; sheet = sheet }
 
--- the answer of a reading that stands at a place, with the part of the sheet from there on, in at most so many records;
--- each record takes a byte or more, so that a limit of more records than bytes is never met
+-- the answer of a reading that stands at a place, with the part of the sheet from there on, in at most so
+-- many records; each record takes a byte or more, so that a limit of more records than bytes is never met
 unfoldable pub readFrom : (limit : ℕ) → Reading → (at : ℕ) → List ℕ → Outcome
 readFrom zero reading at part = refused 11 at
 readFrom (suc limit) reading at part =
@@ -55,7 +55,8 @@ readFrom (suc limit) reading at part =
       | Sound ↦
           elim (isEnd found) [
             | true ↦ whole (reading .sheet)
-            | false ↦ readFrom limit (afterRecord reading found) (at + sizeOf found) (drop (sizeOf found) part)
+            | false ↦
+                readFrom limit (afterRecord reading found) (at + sizeOf found) (drop (sizeOf found) part)
           ]
     ]
 

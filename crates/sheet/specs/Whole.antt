@@ -1,4 +1,4 @@
--- A sheet without fault in the document's words: a board record, rows in any order, an end record, nothing more.
+-- A sheet without fault in the document's words: a board record, rows in any order, an end record, no more.
 use Prim.Native.Nat.{ℕ, _≤_, _<_}
 use mathlib.Core.Path.{_≡_}
 use mathlib.Core.List.{List, [], _∷_, _++_}

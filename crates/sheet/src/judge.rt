@@ -10,7 +10,8 @@ use quantities::Micros;
 use quantities::Table;
 ghost use mathlib.Core.Path.{_≡_};
 ghost use Prim.Native.Nat.{_+_, _<_, _^_};
-ghost use Rattle.sheet.specs.Checks.{misplaced, boardChecks, rowChecks, endChecks, recordChecks, verdictOf};
+ghost use Rattle.sheet.specs.Checks.{misplaced, boardChecks, rowChecks, endChecks};
+ghost use Rattle.sheet.specs.Checks.{recordChecks, verdictOf};
 
 const TOP_PRIORITY: u32 = 999;
 

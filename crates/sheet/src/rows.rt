@@ -7,9 +7,10 @@ use quantities::Row;
 use quantities::Table;
 use quantities::Ticks;
 ghost use mathlib.Core.Path.{_≡_};
-ghost use Rattle.sheet.specs.Entries.{ticksOf, entryOf, boardSheet, entriesOf, used, withEntry, tableOf};
+ghost use Rattle.sheet.specs.Entries.{ticksOf, entryOf, boardSheet};
+ghost use Rattle.sheet.specs.Entries.{entriesOf, used, withEntry, tableOf};
 
-// A time in ticks: whole division by the tick length; a length of 0, which no board has, gives no ticks.
+// A time in ticks: whole division by the tick length; a length of 0, which 19 turns away, gives 0.
 pub fn to_ticks(time: Micros, tick: Micros) -> Ticks
     ensures { λ r. ⌜ r ≡ ticksOf tick time ⌝ }
 {
