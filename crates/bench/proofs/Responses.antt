@@ -1,15 +1,18 @@
--- What a tick's answer says: each poll listed is of a row that got its last unit in this tick, with the ticks since its release.
+-- What a tick's answer lists: the rows that got their last unit in it and no other, each with the ticks since its release.
 use Prim.Native.Nat.{ℕ, zero, suc, _+_, _-_, _≤_, _<_}
+use native.Mathlib.Decide.{decLe}
 use native.Mathlib.Nat.{add-zero}
 use native.Mathlib.Omega.{arith}
+use mathlib.Core.Logic.{inl, inr}
 use mathlib.Core.Path.{_≡_, refl, sym, ap, _∙_}
 use mathlib.Core.Bool.{Bool, true, false, _&&_}
 use mathlib.Core.List.{List, [], _∷_}
 use lib.Dec.{eqb, ltb}
-use lib.ListN.{length, getD, take, length-take}
+use lib.ListN.{length, getD, take, length-take, List·getD-eq-default}
 use lib.Seq.{getD-take}
-use borrow.Author.Tests.{ltb-true, eqb-true}
+use borrow.Author.Tests.{ltb-true, eqb-true, lt-ltb, eq-eqb}
 use Rattle.laws.specs.Each.{Each}
+use Rattle.laws.specs.Member.{Member}
 use Rattle.laws.proofs.Tests.{and-true}
 use Rattle.bench.specs.declared.RowState.{RowState}
 use Rattle.bench.specs.declared.Bench.{Bench}
@@ -105,6 +108,50 @@ each-ends b = all (finished (suc (b .now .0)) 1 (served b) (b .states)) (each-li
     all : (polls : List Finish) → Each (Listed (suc (b .now .0)) 1 (served b) (b .states)) polls → Each (Ends b) polls
     all [] e = tt
     all (poll ∷ polls) (l, e) = (listed-ends b poll l, all polls e)
+
+-- The other way round: the poll of a row that got its last unit is in the list.
+ends-last : (u : ℕ) (s : RowState) → 0 < u → work s - u ≡ 0 → ends u s ≡ true
+unfolding ends
+ends-last u s got done = rw (lt-ltb 0 u got, eq-eqb (work s - u) 0 done)
+
+pub last-listed : (instant place : ℕ) (us : List ℕ) (states : List RowState) (i : ℕ) → i < length states
+    → 0 < getD us i 0 → work (getD states i idle) - getD us i 0 ≡ 0
+    → Member (finishOf instant (place + i) (getD states i idle)) (finished instant place us states)
+unfolding finished
+last-listed instant place [] states i l got done = absurd (omega arith)
+last-listed instant place (u ∷ us) [] i l got done = absurd (omega arith)
+last-listed instant place (u ∷ us) (s ∷ states) zero l got done =
+    rw (add-zero, ends-last u s got done, finished) (inl refl)
+last-listed instant place (u ∷ us) (s ∷ states) (suc i) l got done =
+    let same : suc place + i ≡ place + suc i = omega arith in
+    go (ends u s) (rw same at (last-listed instant (suc place) us states i (omega arith) got done))
+  where
+    go : (t : Bool) → Member (finishOf instant (place + suc i) (getD states i idle)) (finished instant (suc place) us states)
+        → Member (finishOf instant (place + suc i) (getD states i idle))
+        (elim t [ true ↦ finishOf instant place s ∷ finished instant (suc place) us states | false ↦ finished instant (suc place) us states ])
+    go true m = inr m
+    go false m = m
+
+-- a place past the states gets no unit
+served-within : (b : Bench) (i : ℕ) → 0 < getD (served b) i 0 → i < length (b .states)
+unfolding served
+served-within b i got = go (decLe (length (served b)) i)
+  where
+    go : Dec (length (served b) ≤ i) → i < length (b .states)
+    go (yes h) = absurd (omega (arith, List·getD-eq-default (served b) 0 h))
+    go (no h) =
+        let n = length-units (b .cores) (take (length (rows b)) (b .states)) in
+        let m = length-take (length (rows b)) (b .states) in
+        omega arith
+
+-- A row that got a unit in a tick and had one left has ended its poll, and the answer lists it with the ticks since its release.
+pub last-unit-ends : (b : Bench) (place : ℕ) → 0 < place → getD (served b) (place - 1) 0 ≡ 1 → work (stateAt b place) ≡ 1
+    → Member (finishOf (suc (b .now .0)) place (stateAt b place)) (taken b .finishes)
+unfolding taken
+last-unit-ends b place low got one =
+    let here : 1 + (place - 1) ≡ place = omega arith in
+    let within = served-within b (place - 1) (omega arith) in
+    rw here at (last-listed (suc (b .now .0)) 1 (served b) (b .states) (place - 1) within (omega arith) (omega arith))
 
 -- Polls in rising place, from a place on.
 abbrev pub Rising : ℕ → List Finish → Type 0
