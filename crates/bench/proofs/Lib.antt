@@ -14,4 +14,5 @@ pub mod Balance
 pub mod Prefix
 pub mod Below
 pub mod Responses
+pub mod Fits
 pub mod TickRule
