@@ -51,7 +51,8 @@ moved-at b place = worked-at (served b) (b .states) (place - 1)
 pub served-le-work : (b : Bench) (place : ℕ) → 0 < place → place ≤ length (rows b) → getD (served b) (place - 1) 0 ≤ work (stateAt b place)
 unfolding served
 served-le-work b place low high =
-    rw (getD-take (length (rows b)) (b .states) (place - 1) idle (omega arith)) at (unit-le-work (b .cores) (place - 1) (take (length (rows b)) (b .states)))
+    rw (← getD-take (length (rows b)) (b .states) (place - 1) idle (omega arith))
+    (unit-le-work _ (place - 1) (take (length (rows b)) (b .states)))
 
 -- One call balances.
 module _ (b : Bench) (k : Kept b) (place : ℕ) (low : 0 < place) (high : place ≤ length (rows b)) where

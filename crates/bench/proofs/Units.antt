@@ -20,6 +20,20 @@ pub unit-facts : (m l : ℕ) → Unit-facts m l (unit m l)
 unfolding unit
 unit-facts m l = record { le-one = omega arith; le-left = omega arith; le-spare = omega arith; is-min = refl }
 
+-- a row with work, below fewer rows with work than there are cores, gets one unit
+pub unit-high : (free i : ℕ) (states : List RowState) → 0 < work (getD states i idle) → workers (take i states) < free → getD (units free states) i 0 ≡ 1
+unfolding unit units workers
+unit-high free i [] w h = absurd (omega arith)
+unit-high free zero (s ∷ states) w h = omega arith
+unit-high free (suc i) (s ∷ states) w h = unit-high (free - unit free (work s)) i states w (omega arith)
+
+-- a row below as many rows with work as there are cores gets none
+pub unit-low : (free i : ℕ) (states : List RowState) → free ≤ workers (take i states) → getD (units free states) i 0 ≡ 0
+unfolding unit units workers
+unit-low free i [] h = refl
+unit-low free zero (s ∷ states) h = omega arith
+unit-low free (suc i) (s ∷ states) h = unit-low (free - unit free (work s)) i states (omega arith)
+
 -- the sum of units
 abbrev pub total : List ℕ → ℕ
 total [] = 0
@@ -32,24 +46,6 @@ units-total free [] = omega arith
 units-total free (s ∷ states) =
     let f = unit-facts free (work s) in
     omega (arith, units-total (free - unit free (work s)) states)
-
--- a row with work, below fewer rows with work than there are cores, gets one unit
-pub unit-high : (free i : ℕ) (states : List RowState) → 0 < work (getD states i idle) → workers (take i states) < free → getD (units free states) i 0 ≡ 1
-unfolding units workers
-unit-high free i [] w h = absurd (omega arith)
-unit-high free zero (s ∷ states) w h = let f = unit-facts free (work s) in omega arith
-unit-high free (suc i) (s ∷ states) w h =
-    let f = unit-facts free (work s) in
-    unit-high (free - unit free (work s)) i states w (omega arith)
-
--- a row below as many rows with work as there are cores gets none
-pub unit-low : (free i : ℕ) (states : List RowState) → free ≤ workers (take i states) → getD (units free states) i 0 ≡ 0
-unfolding units workers
-unit-low free i [] h = refl
-unit-low free zero (s ∷ states) h = let f = unit-facts free (work s) in omega arith
-unit-low free (suc i) (s ∷ states) h =
-    let f = unit-facts free (work s) in
-    unit-low (free - unit free (work s)) i states (omega arith)
 
 -- no row gets more than it has work: so one without work gets none
 pub unit-le-work : (free i : ℕ) (states : List RowState) → getD (units free states) i 0 ≤ work (getD states i idle)

@@ -10,6 +10,11 @@ use Rattle.bench.specs.declared.Finish.{Finish}
 use Rattle.bench.specs.declared.Turn.{Turn}
 use Rattle.bench.specs.Record.{work}
 
+-- how many of the rows have work remaining: the count that document 01 calls "how many"
+unfoldable pub workers : List RowState → ℕ
+workers [] = 0
+workers (state ∷ states) = min 1 (work state) + workers states
+
 -- the units that a row with this much work gets when so many cores are free: one, or none
 unfoldable pub unit : (free left : ℕ) → ℕ
 unit free left = min left (min 1 free)
@@ -18,11 +23,6 @@ unit free left = min left (min 1 free)
 unfoldable pub units : (free : ℕ) → List RowState → List ℕ
 units free [] = []
 units free (state ∷ states) = unit free (work state) ∷ units (free - unit free (work state)) states
-
--- how many of the rows have work remaining: the count that document 01 calls "how many"
-unfoldable pub workers : List RowState → ℕ
-workers [] = 0
-workers (state ∷ states) = min 1 (work state) + workers states
 
 -- a row's state when it has got so many units
 unfoldable pub less : ℕ → RowState → RowState
