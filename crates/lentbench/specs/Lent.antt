@@ -18,9 +18,9 @@ pub record LentRelease (step : Step) (left : Bench) (outcome : Outcome) : Type 0
 abbrev pub tickAnswerOf : Step → TickAnswer
 tickAnswerOf step = record { outcome = step .outcome; finishes = finishesOf (step .finishes) }
 
--- A tick of a lent bench is a step: the bench is left as the step leaves it, and the answer is the step's.
-pub record LentTick (step : Step) (left : Bench) (answer : TickAnswer) : Type 0 where
-  pub leaves : left ≡ step .bench
+-- A tick of a lent bench is a step: the bench is moved on as the step moves it, and the answer is the step's.
+pub record LentTick (step : Step) (moved : Bench) (answer : TickAnswer) : Type 0 where
+  pub leaves : moved ≡ step .bench
   pub answers : answer ≡ tickAnswerOf step
 
 -- the history of so many ticks
