@@ -40,7 +40,7 @@ pub record Kept (b : Bench) : Type 0 where
   pub whole : Whole b
   pub long : length (b .states) ≡ rowCapacity
 
--- A row's state that a run makes.
+-- A row's state for which number 29 is not due.
 pub record RowKept (now : ℕ) (row : Row) (state : RowState) : Type 0 where
   pub past : lastBroken now (state .last) (work state) ≡ false
   pub fits : state .demand .0 ≤ cost row

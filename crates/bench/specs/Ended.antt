@@ -13,7 +13,8 @@ noFinish = record { place = 0; response = record { 0 = 0 } }
 
 -- the code's list of these polls
 unfoldable pub finishesOf : List Finish → Finishes
-finishesOf polls = record { count = length polls; list = polls ++ replicate (rowCapacity - length polls) noFinish }
+finishesOf polls =
+    record { count = length polls; list = polls ++ replicate (rowCapacity - length polls) noFinish }
 
 -- the code's list with one poll more, if it ended
 unfoldable pub noted : Finishes → Bool → Finish → Finishes

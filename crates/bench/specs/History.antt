@@ -1,4 +1,4 @@
--- Histories of calls: the run of a history from a bench, refused calls included, and what a history did to a row.
+-- Histories of calls: the run of a history from a bench, refused calls included, and what it did to a row.
 use Prim.Native.Nat.{ℕ, zero, suc, _+_, _-_}
 use mathlib.Core.Bool.{Bool, true, false, _&&_}
 use mathlib.Core.List.{List, [], _∷_}
@@ -42,7 +42,7 @@ unfoldable pub isTaken : Outcome → Bool
 isTaken Taken = true
 isTaken (Refused why) = false
 
--- the demand that a call brings the row at a place, and the units that it serves the row: nothing where it is refused
+-- the demand that a call brings the row at a place, and the units that it serves it: none where it is refused
 unfoldable pub brought : (place : ℕ) → Bench → Call → ℕ
 brought place b (releases other demand) =
     elim (eqb other place && isTaken (release b other demand .outcome)) [ true ↦ demand | false ↦ 0 ]
@@ -75,7 +75,9 @@ callsTo k (call ∷ calls) = elim (concerns k call) [ true ↦ call ∷ callsTo 
 -- the ended polls of rows down to place k
 unfoldable pub finishesTo : (k : ℕ) → List Finish → List Finish
 finishesTo k [] = []
-finishesTo k (poll ∷ polls) = elim (leb (poll .place) k) [ true ↦ poll ∷ finishesTo k polls | false ↦ finishesTo k polls ]
+finishesTo k (poll ∷ polls) =
+    let rest = finishesTo k polls in
+    elim (leb (poll .place) k) [ true ↦ poll ∷ rest | false ↦ rest ]
 
 -- What the rows down to a place hear of a call: whether it was taken, and which of their polls ended.
 pub record Heard : Type 0 where

@@ -1,4 +1,4 @@
--- The bench: what it holds, when its record is broken, how rows are served, its calls and their histories.
+-- The bench: what it holds, when number 29 is due, how rows are served, its calls and their histories.
 pub mod Record
 pub mod Refusal
 pub mod Serving

@@ -1,4 +1,4 @@
--- What the bench holds of its rows, and when its record is one that no run makes: number 29.
+-- What the bench holds of its rows, and when number 29 is due for its record.
 use Prim.Native.Nat.{ℕ, _-_}
 use mathlib.Core.Bool.{Bool, true, false, _||_}
 use mathlib.Core.List.{List, [], _∷_}
@@ -37,15 +37,16 @@ rowAt b place = getD (rows b) (place - 1) noRow
 abbrev pub stateAt : Bench → ℕ → RowState
 stateAt b place = getD (b .states) (place - 1) idle
 
--- whether a last release is none that this much work can go with: after the present instant, or none and there is work
+-- whether a last release is after the present instant, or there is work on a row never released
 unfoldable pub lastBroken : (now : ℕ) → Last → (left : ℕ) → Bool
 lastBroken now Never left = ltb 0 left
 lastBroken now (At at) left = ltb now (at .0)
 
--- whether a row's state is none that a run makes: by its last release, a demand above its cost, a remainder above its demand
+-- whether 29 is due for a row's state: by its last release, a demand above C, a remainder above that demand
 unfoldable pub rowBroken : (now : ℕ) → Row → RowState → Bool
 rowBroken now row state =
-    lastBroken now (state .last) (work state) || (ltb (cost row) (state .demand .0) || ltb (state .demand .0) (work state))
+    lastBroken now (state .last) (work state)
+    || (ltb (cost row) (state .demand .0) || ltb (state .demand .0) (work state))
 
 -- whether this is so of one of the rows and the states that stand beside them
 unfoldable pub rowsBroken : (now : ℕ) → List Row → List RowState → Bool
@@ -58,7 +59,7 @@ unfoldable pub isFault : Option Fault → Bool
 isFault none = false
 isFault (some fault) = true
 
--- 29: a table that fails one of checks 1 to 6, an instant past the clock's end, or a row's state that no run makes
+-- 29 is due: for a table failing one of checks 1 to 6, an instant past the clock's end, or a row's state
 unfoldable pub broken : Bench → Bool
 broken b =
     isFault (listFault (b .cores) (rows b))

@@ -1,4 +1,4 @@
--- The starred bench case of document 01, "Numbers to check by hand", as a claim about the run of the definition.
+-- The starred bench case of document 01, "Numbers to check by hand", as a claim about the definition's run.
 use Prim.Native.Nat.{ℕ}
 use mathlib.Core.Path.{_≡_, refl}
 use mathlib.Core.List.{List, [], _∷_}
@@ -15,7 +15,8 @@ use Rattle.bench.specs.declared.Outcome.the-variants.{Taken}
 use Rattle.bench.specs.Record.{lastBroken, rowBroken, rowsBroken, isFault, broken}
 use Rattle.bench.specs.Refusal.{firstRefusal, tooSoon, releaseTests, tickTests}
 use Rattle.bench.specs.Serving.{unit, units, less, worked, ends, since, finishOf, finished}
-use Rattle.bench.specs.Step.{emptyBench, openedAfter, opened, Step, unless, started, release, served, moved, taken, tick}
+use Rattle.bench.specs.Step.{emptyBench, openedAfter, opened, Step, unless, started, release}
+use Rattle.bench.specs.Step.{served, moved, taken, tick}
 use Rattle.bench.specs.History.{Call, releases, ticks, after, steps}
 
 -- the board of the case, on one core

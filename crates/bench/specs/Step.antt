@@ -29,7 +29,7 @@ unfoldable pub emptyBench : (cores : ℕ) → Table → Bench
 emptyBench cores table =
     record { cores = cores; table = table; now = record { 0 = 0 }; states = replicate rowCapacity idle }
 
--- what stands in the place of a bench where an opening is refused: no cores and no rows, so that each call on it gives 29
+-- what stands for a bench where an opening is refused: no cores and no rows, so that each call on it gives 29
 unfoldable pub noBench : Bench
 noBench = emptyBench 0 emptyTable
 
@@ -54,7 +54,8 @@ unless (some why) step b = record { outcome = Refused why; finishes = []; bench 
 
 -- a poll that starts with this demand at an instant
 abbrev pub fresh : (now demand : ℕ) → RowState
-fresh now demand = record { last = At (record { 0 = now }); demand = record { 0 = demand }; left = record { 0 = demand } }
+fresh now demand =
+    record { last = At (record { 0 = now }); demand = record { 0 = demand }; left = record { 0 = demand } }
 
 -- the bench with a poll of `demand` started at `place`
 unfoldable pub started : Bench → (place demand : ℕ) → Bench
@@ -90,7 +91,11 @@ moved b =
 -- a tick that is not refused: the polls that end in it are listed with the instant after growing
 unfoldable pub taken : Bench → Step
 taken b =
-    record { outcome = Taken; finishes = finished (suc (b .now .0)) 1 (served b) (b .states); bench = moved b }
+    record {
+      outcome = Taken;
+      finishes = finished (suc (b .now .0)) 1 (served b) (b .states);
+      bench = moved b;
+    }
 
 -- Tick: rows are served from the top, and the instant grows by one.
 unfoldable pub tick : Bench → Step
@@ -109,4 +114,5 @@ unfoldable pub releasedOf : Step → Released
 releasedOf step = record { outcome = step .outcome; bench = step .bench }
 
 unfoldable pub tickedOf : Step → Ticked
-tickedOf step = record { outcome = step .outcome; finishes = finishesOf (step .finishes); bench = step .bench }
+tickedOf step =
+    record { outcome = step .outcome; finishes = finishesOf (step .finishes); bench = step .bench }

@@ -1,4 +1,4 @@
-//! What makes a record one that no run makes, row by row, and when a release is too soon.
+//! When number 29 is due for a row's state, and when a release is too soon.
 use crate::Bench;
 use crate::Last;
 use crate::RowState;
@@ -21,7 +21,7 @@ fn last_broken(now: Instant, last: Last, left: Ticks) -> bool
     }
 }
 
-// Whether a row's state is none that a run makes.
+// Whether 29 is due for a row's state: by its last release, a demand above C, a remainder above that demand.
 fn row_broken(now: Instant, row: Row, state: RowState) -> bool
     ensures { λ r. ⌜ r ≡ rowBroken (now .0) row state ⌝ }
 {
@@ -35,7 +35,7 @@ fn row_broken(now: Instant, row: Row, state: RowState) -> bool
     state.demand.0 < state.left.0
 }
 
-// Whether one of the rows has a state that no run makes.
+// Whether 29 is due for the state of one of the rows.
 pub(crate) fn rows_broken(b: Bench) -> bool
     requires { ⌜ b .table .count ≤ rowCapacity ⌝ }
     ensures { λ r. ⌜ r ≡ rowsBroken (b .now .0) (rows b) (b .states) ⌝ }

@@ -187,7 +187,7 @@ impl Bench {
         }
     }
 
-    // Whether the record is one that no run makes: number 29.
+    // Whether number 29 is due: by a table failing 1 to 6, an instant above 1,000,000,000, or a row's state.
     pub fn broken(self) -> bool
         ensures { λ r. ⌜ r ≡ broken self ⌝ }
     {
@@ -204,7 +204,7 @@ impl Bench {
         rows_broken(self)
     }
 
-    // Whether a release of `demand` at `place` is taken or, by the first of 29, 20, 23, 22, 21 that applies, refused.
+    // Whether a release of `demand` at `place` is taken, or refused: the first of 29, 20, 23, 22, 21 decides.
     pub fn judge_release(self, place: usize, demand: Ticks) -> Outcome
         ensures { λ r. ⌜ r ≡ outcomeOf (firstRefusal (releaseTests self place (demand .0))) ⌝ }
     {
@@ -237,7 +237,7 @@ impl Bench {
         Outcome::Taken
     }
 
-    // Whether a tick is taken or, by the first of 29 and 24 that applies, refused.
+    // Whether a tick is taken, or refused: the first of 29 and 24 decides.
     pub fn judge_tick(self) -> Outcome
         ensures { λ r. ⌜ r ≡ outcomeOf (firstRefusal (tickTests self)) ⌝ }
     {
@@ -279,7 +279,7 @@ impl Bench {
         }
     }
 
-    // Rows with work are served from the top, one unit each, as far as the cores go; the instant grows by one.
+    // Rows with work are served from the top, one unit each, while there are cores; the instant grows by one.
     pub fn tick(self) -> Ticked
         ensures { λ r. ⌜ r ≡ tickedOf (tick self) ⌝ }
     {
