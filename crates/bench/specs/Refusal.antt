@@ -6,6 +6,7 @@ use mathlib.Core.Option.{Option, none, some}
 use lib.Dec.{eqb, ltb}
 use lib.ListN.{length}
 use Rattle.quantities.specs.Row.{cost, gap}
+use Rattle.quantities.specs.Paper.{Paper, paper, noRefusal}
 use Rattle.bench.specs.declared.Last.{Last}
 use Rattle.bench.specs.declared.Last.the-variants.{Never, At}
 use Rattle.bench.specs.declared.Bench.{Bench}
@@ -53,20 +54,16 @@ unfoldable pub outcomeOf : Option Refusal → Outcome
 outcomeOf none = Taken
 outcomeOf (some why) = Refused why
 
--- the number of document 01 for each refusal
-unfoldable pub numberOf : Refusal → ℕ
-numberOf (NoPlace place) = 20
-numberOf (Unfinished place) = 21
-numberOf (TooSoon place) = 22
-numberOf (WrongDemand place) = 23
-numberOf ClockEnd = 24
-numberOf BrokenRecord = 29
+-- a refusal on paper: its number and its place in document 01
+unfoldable pub refusalPaper : Refusal → Paper
+refusalPaper (NoPlace place) = paper 20 place
+refusalPaper (Unfinished place) = paper 21 place
+refusalPaper (TooSoon place) = paper 22 place
+refusalPaper (WrongDemand place) = paper 23 place
+refusalPaper ClockEnd = paper 24 0
+refusalPaper BrokenRecord = paper 29 0
 
--- and the place that stands with it
-unfoldable pub placeOf : Refusal → ℕ
-placeOf (NoPlace place) = place
-placeOf (Unfinished place) = place
-placeOf (TooSoon place) = place
-placeOf (WrongDemand place) = place
-placeOf ClockEnd = 0
-placeOf BrokenRecord = 0
+-- an outcome on paper
+unfoldable pub paperOf : Outcome → Paper
+paperOf Taken = noRefusal
+paperOf (Refused why) = refusalPaper why

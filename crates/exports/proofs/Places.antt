@@ -20,6 +20,7 @@ use Rattle.quantities.specs.declared.Fault.the-variants.{WholeList, OneRow}
 use Rattle.quantities.proofs.Rows.{length-rows}
 use Rattle.windows.specs.Bound.{boundsBelow, boundOf}
 use Rattle.windows.specs.Choice.{Bounded, bounded}
+use Rattle.quantities.specs.Paper.{faultPaper}
 use Rattle.windows.specs.Answer.{Judged, verdict, judgedAfter, judgedInto, paperOf}
 use Rattle.windows.specs.declared.Answer.the-variants.{Shown, NotShown, Refused}
 use Rattle.windows.proofs.Judgement.{verdict-all, verdict-short}
@@ -40,7 +41,7 @@ rows-places n place (row ∷ rows) h =
 -- the fault of such checks has such a place
 fault-place : (n : ℕ) (checks : List Check) (fault : Fault) → PlacesTo n checks
     → faultFrom (firstFailing checks) ≡ some fault → paperOf (Refused fault) .place ≤ n
-unfolding firstFailing faultFrom paperOf
+unfolding firstFailing faultFrom paperOf faultPaper
 fault-place n [] fault all e = let z : _≡_ {A = ℕ} 0 1 = cc in absurd (omega arith)
 fault-place n (one ∷ checks) fault all e = go (one .fails) refl (fault-place n checks fault (all .1))
   where
@@ -79,7 +80,7 @@ bounds-few M above (row ∷ rows) = go (boundOf M above row) (λ b. bounds-few M
     go (some b) below = omega (arith, below b)
 
 verdict-place : (count : ℕ) (bounds : List ℕ) → paperOf (verdict count bounds .answer) .place ≤ suc (length bounds)
-unfolding paperOf
+unfolding paperOf faultPaper
 verdict-place count bounds =
     elim (decEq (length bounds) count) [
       | yes e ↦ rw (verdict-all count bounds e) (omega arith)

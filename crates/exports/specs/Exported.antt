@@ -5,7 +5,8 @@ use mathlib.Core.List.{List, map}
 use lib.ListN.{getD}
 use Rattle.quantities.specs.Row.{rowOf}
 use Rattle.quantities.specs.declared.Row.{Row}
-use Rattle.windows.specs.Answer.{Judged, Paper, paperOf, written}
+use Rattle.quantities.specs.Paper.{Paper}
+use Rattle.windows.specs.Answer.{Judged, paperOf, written}
 use Rattle.windows.specs.declared.Answer.{Answer}
 
 -- the row of a triple C, D, T, and the rows of a list of triples

@@ -1,4 +1,4 @@
--- Laws of the answer into a lent bounds list, of the table that a list makes, and of what is left in the list.
-pub mod Into
+-- Laws of how many bounds there are, of the table that a list makes, and of what is left in the list.
+pub mod Counted
 pub mod Loaded
 pub mod Lent

@@ -21,7 +21,7 @@ use Rattle.quantities.proofs.Rows.{length-rows}
 use Rattle.windows.specs.Answer.{judgedInto}
 use Rattle.windows.specs.Judgement.{rowAt}
 use Rattle.lentrows.specs.Loaded.{loaded, tableOf}
-use Rattle.lentrows.proofs.Into.{into-faulty}
+use Rattle.windows.proofs.Into.{into-faulty}
 
 -- a table that is not full takes one row more; a full one counts one row too many
 with-row-fits : (table : Table) (row : Row) → table .count < rowCapacity

@@ -8,17 +8,13 @@ use mathlib.Core.Option.{Option, none, some}
 use lib.Dec.{eqb}
 use lib.ListN.{length, drop}
 use lib.Seq.{take-append-seam, drop-append-seam}
-use borrow.Author.Tests.{le-ltb, ne-eqb}
-use Rattle.laws.specs.Each.{Each}
-use Rattle.quantities.specs.declared.Row.{Row}
-use Rattle.quantities.specs.declared.Fault.{Fault}
-use Rattle.quantities.specs.declared.Fault.the-variants.{WholeList, OneRow}
-use Rattle.quantities.specs.Checks.{Check, check, listChecks, roomChecks, firstFailing, FirstFailing, faultFrom, lentFault, listFault}
+use borrow.Author.Tests.{ne-eqb}
+use Rattle.quantities.specs.Checks.{listChecks, roomChecks, lentFault, listFault}
 use Rattle.quantities.specs.Table.{rowsOf}
-use Rattle.quantities.proofs.Checks.{fault-is-some, fault-in-second}
 use Rattle.quantities.proofs.Sound.{sound-list-means}
-use Rattle.windows.specs.Answer.{judgedAfter, judged, judgedInto, written, paperOf}
-use Rattle.windows.specs.declared.Answer.the-variants.{Refused}
+use Rattle.quantities.proofs.Paper.{turned-away}
+use Rattle.windows.specs.Answer.{written, paperOf}
+use Rattle.windows.proofs.Into.{into-refused, into-room}
 use Rattle.windows.proofs.Judgement.{judged-faulty, judged-means, one-judgement}
 use Rattle.sheet.proofs.Promises.{whole-exactly, faulty-sheet-turned-away, refused-by-first-fault, no-table-refused}
 use Rattle.sheet.proofs.Promises.{each-row-once, priorities-rise, table-in-order}
@@ -48,68 +44,23 @@ use Rattle.promises.specs.Promises.{
   Demand3,
 }
 
--- the first check that fails is the one that firstFailing finds
-first-is : (before after : List Check) (one : Check) → one .fails ≡ true → Each (λ earlier. earlier .fails ≡ false) before
-    → firstFailing (before ++ one ∷ after) ≡ some one
-unfolding firstFailing
-first-is [] after one failed passed =
-    ap (λ (t : Bool). elim t as (λ x. Option Check) [ true ↦ some one | false ↦ firstFailing after ]) failed
-first-is (earlier ∷ before) after one failed passed =
-    rw (passed .0, firstFailing) (first-is before after one failed (passed .1))
-
--- the paper's number and place of the fault that a check makes are the check's own
-check-on-paper : (one : Check) (fault : Fault) → faultFrom (some one) ≡ some fault
-    → paperOf (Refused fault) ≡ record { number = one .number; place = one .place }
-unfolding faultFrom paperOf
-check-on-paper one fault e = at (one .number) (one .place) (one .fails) fault e
-  where
-    at : (number place : ℕ) (fails : Bool) (fault : Fault) → faultFrom (some (check number place fails)) ≡ some fault
-        → paperOf (Refused fault) ≡ record { number = number; place = place }
-    at number zero fails fault e = let same : WholeList number ≡ fault = cc in rw (← same) refl
-    at number (suc p) fails fault e = let same : OneRow number (suc p) ≡ fault = cc in rw (← same) refl
-
--- a check that fails makes some fault
-fault-of : (one : Check) → (fault : Fault) × (faultFrom (some one) ≡ some fault)
-fault-of one = go (faultFrom (some one)) refl
-  where
-    go : (found : Option Fault) → faultFrom (some one) ≡ found → (fault : Fault) × (faultFrom (some one) ≡ some fault)
-    go none e = absurd (fault-is-some one e)
-    go (some fault) e = (fault, e)
-
--- the answer once the first failing check is known
-turned-away : (checks : List Check) (one : Check) → FirstFailing checks one
-    → (fault : Fault) × ((faultFrom (firstFailing checks) ≡ some fault) × (paperOf (Refused fault) ≡ record { number = one .number; place = one .place }))
-turned-away checks one first =
-    let found : firstFailing checks ≡ some one =
-    rw (first .stands) (first-is (first .before) (first .after) one (first .failed) (first .passed)) in
-    let (fault, e) = fault-of one in
-    (fault, (ap faultFrom found ∙ e, check-on-paper one fault e))
-
 faulty-list-turned-away : FaultyListTurnedAway
-unfolding listFault
+unfolding listFault paperOf
 faulty-list-turned-away cores rows one first =
-    let (fault, (e, paper)) = turned-away (listChecks cores rows) one first in
-    let answer = judged-faulty cores rows fault e in
-    (rw answer paper, rw answer refl)
+    let turned = turned-away (listChecks cores rows) one first in
+    let answer = judged-faulty cores rows (turned .fault) (turned .is-fault) in
+    (rw answer (turned .on-paper), rw answer refl)
 
 lent-list-left-alone : LentListLeftAlone
-unfolding judgedInto judgedAfter lentFault written
+unfolding lentFault written paperOf
 lent-list-left-alone cores rows entries one first =
-    let (fault, (e, paper)) = turned-away (listChecks cores rows ++ roomChecks (length entries) rows) one first in
-    let answer : judgedInto cores (length entries) rows ≡ record { answer = Refused fault; bounds = [] } = rw e in
-    (rw answer paper, rw answer refl)
-
--- a list with room passes check 7
-room-passes : (entries : ℕ) (rows : List Row) → length rows ≤ entries → faultFrom (firstFailing (roomChecks entries rows)) ≡ none
-unfolding roomChecks firstFailing faultFrom
-room-passes entries rows h = simp (le-ltb entries (length rows) h)
+    let turned = turned-away (listChecks cores rows ++ roomChecks (length entries) rows) one first in
+    let answer = into-refused cores (length entries) rows (turned .fault) (turned .is-fault) in
+    (rw answer (turned .on-paper), rw answer refl)
 
 room-enough : RoomEnough
-unfolding judgedInto judged lentFault listFault
 room-enough cores entries rows sound enough =
-    let none-yet : faultFrom (firstFailing (listChecks cores rows)) ≡ none = sound-list-means cores rows .1 sound in
-    let none-after = fault-in-second (listChecks cores rows) (roomChecks entries rows) none-yet ∙ room-passes entries rows enough in
-    ap (λ (found : Option Fault). judgedAfter found cores rows) (none-after ∙ sym none-yet)
+    into-room cores entries rows (sound-list-means cores rows .1 sound) enough
 
 bounds-written : BoundsWritten
 unfolding written

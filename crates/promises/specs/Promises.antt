@@ -7,8 +7,9 @@ use lib.ListN.{length, take, drop}
 use Rattle.quantities.specs.declared.Row.{Row}
 use Rattle.quantities.specs.declared.Table.{Table}
 use Rattle.quantities.specs.Table.{rowsOf}
+use Rattle.quantities.specs.Paper.{paper}
 use Rattle.quantities.specs.Checks.{Check, listChecks, roomChecks, FirstFailing, SoundList}
-use Rattle.windows.specs.Answer.{Judged, judged, judgedInto, written, Paper, paperOf}
+use Rattle.windows.specs.Answer.{Judged, judged, judgedInto, written, paperOf}
 use Rattle.windows.specs.Judgement.{Judgement}
 use Rattle.sheet.specs.Promises.{WholeExactly, FaultySheetTurnedAway, RefusedByFirstFault, NoTableRefused}
 use Rattle.sheet.specs.Promises.{EachRowOnce, PrioritiesRise, TableInOrder}
@@ -28,7 +29,7 @@ use Rattle.running.specs.Replayed.{ReplayInTime}
 abbrev pub FaultyListTurnedAway : Type 0
 FaultyListTurnedAway =
     (cores : ℕ) (rows : List Row) (one : Check) → FirstFailing (listChecks cores rows) one
-    → (paperOf (judged cores rows .answer) ≡ record { number = one .number; place = one .place })
+    → (paperOf (judged cores rows .answer) ≡ paper (one .number) (one .place))
     × (judged cores rows .bounds ≡ [])
 
 -- The same where the bounds go into a list, with 7 after the rows' checks; and that list stays as it was.
@@ -36,7 +37,7 @@ abbrev pub LentListLeftAlone : Type 0
 LentListLeftAlone =
     (cores : ℕ) (rows : List Row) (entries : List ℕ) (one : Check)
     → FirstFailing (listChecks cores rows ++ roomChecks (length entries) rows) one
-    → (paperOf (judgedInto cores (length entries) rows .answer) ≡ record { number = one .number; place = one .place })
+    → (paperOf (judgedInto cores (length entries) rows .answer) ≡ paper (one .number) (one .place))
     × (written (judgedInto cores (length entries) rows) entries ≡ entries)
 
 -- A sound list with an entry for each row is answered as it is without such a list: 7 is not given to it.

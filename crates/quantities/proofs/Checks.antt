@@ -15,11 +15,13 @@ use Rattle.quantities.specs.Checks.{
   rowChecks,
   rowsChecks,
   listChecks,
+  roomChecks,
   firstFailing,
   faultFrom,
   rowFault,
   rowsFault,
   listFault,
+  lentFault,
   checkedOf,
 }
 use Rattle.quantities.specs.declared.Row.{Row}
@@ -126,6 +128,23 @@ module _ (cores : ℕ) (rows : List Row) where
   unfolding listFault listChecks firstFailing
   list-fault-rows some-rows few some-cores few-cores =
       simp (ne-eqb (length rows) 0 some-rows, le-ltb rowCapacity (length rows) few, ne-eqb cores 0 some-cores, le-ltb coreLimit cores few-cores)
+
+-- The fault of a list whose bounds go into a list with so many entries: its own fault comes first, then 7.
+module _ (cores entries : ℕ) (rows : List Row) where
+  pub lent-fault-list : (f : Fault) → listFault cores rows ≡ some f → lentFault cores entries rows ≡ some f
+  unfolding lentFault listFault
+  lent-fault-list f e = fault-in-first (listChecks cores rows) (roomChecks entries rows) f e
+
+  pub lent-fault-short : listFault cores rows ≡ none → entries < length rows
+      → lentFault cores entries rows ≡ some (WholeList 7)
+  unfolding lentFault listFault roomChecks firstFailing faultFrom
+  lent-fault-short e h =
+      rw (fault-in-second (listChecks cores rows) (roomChecks entries rows) e, lt-ltb entries (length rows) h) refl
+
+  pub lent-fault-room : listFault cores rows ≡ none → length rows ≤ entries → lentFault cores entries rows ≡ none
+  unfolding lentFault listFault roomChecks firstFailing faultFrom
+  lent-fault-room e h =
+      rw (fault-in-second (listChecks cores rows) (roomChecks entries rows) e, le-ltb entries (length rows) h) refl
 
 -- What the code's answer says of the fault.
 pub checked-sound : (found : Option Fault) → checkedOf found ≡ Sound → found ≡ none

@@ -1,4 +1,5 @@
 -- Laws of the quantities' definitions.
 pub mod Checks
 pub mod Sound
+pub mod Paper
 pub mod Rows

@@ -48,6 +48,23 @@ first-failing (head ∷ rest) one e = go (head .fails) refl (first-failing rest 
           passed = (q, found .passed);
         }
 
+-- and the other way round: the first that fails is found, and nothing is found where none fails
+pub first-found : (checks : List Check) (one : Check) → FirstFailing checks one → firstFailing checks ≡ some one
+unfolding firstFailing
+first-found checks one first =
+    ap firstFailing (first .stands) ∙ behind (first .before) (first .after) (first .failed) (first .passed)
+  where
+    behind : (before after : List Check) → one .fails ≡ true → Each (λ earlier. earlier .fails ≡ false) before
+        → firstFailing (before ++ one ∷ after) ≡ some one
+    behind [] after failed passed =
+        ap (λ (t : Bool). elim t as (λ x. Option Check) [ true ↦ some one | false ↦ firstFailing after ]) failed
+    behind (earlier ∷ before) after failed passed = rw (passed .0, firstFailing) (behind before after failed (passed .1))
+
+pub none-found : (checks : List Check) → Each (λ one. one .fails ≡ false) checks → firstFailing checks ≡ none
+unfolding firstFailing
+none-found [] passed = refl
+none-found (one ∷ rest) passed = rw (passed .0, firstFailing) (none-found rest (passed .1))
+
 -- there is a fault exactly where a check fails
 fault-none : (checks : List Check) → faultFrom (firstFailing checks) ≡ none → firstFailing checks ≡ none
 fault-none checks e = go (firstFailing checks) refl

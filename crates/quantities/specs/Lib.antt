@@ -1,5 +1,6 @@
--- Limits, rows, tables and the checks of a list.
+-- Limits, rows, tables, the checks of a list, and faults on paper.
 pub mod Limits
 pub mod Row
 pub mod Table
 pub mod Checks
+pub mod Paper

@@ -8,9 +8,8 @@ use lib.ListN.{length}
 use Rattle.bench.specs.declared.Request.{Request}
 use Rattle.bench.specs.declared.Request.the-variants.{Release, Tick}
 use Rattle.bench.specs.declared.Outcome.{Outcome}
-use Rattle.bench.specs.declared.Outcome.the-variants.{Taken, Refused}
 use Rattle.bench.specs.declared.Finish.{Finish}
-use Rattle.bench.specs.Refusal.{numberOf, placeOf}
+use Rattle.bench.specs.Refusal.{paperOf}
 use Rattle.bench.specs.Step.{Step}
 use Rattle.replay.specs.declared.Read.{Read}
 use Rattle.replay.specs.declared.Read.the-variants.{Nothing, Call}
@@ -41,15 +40,6 @@ unfoldable pub readOf : Option Request → Read
 readOf none = Nothing
 readOf (some request) = Call request
 
--- number and place of a call's outcome: 0 at 0 where it was taken
-unfoldable pub outcomeNumber : Outcome → ℕ
-outcomeNumber Taken = 0
-outcomeNumber (Refused why) = numberOf why
-
-unfoldable pub outcomePlace : Outcome → ℕ
-outcomePlace Taken = 0
-outcomePlace (Refused why) = placeOf why
-
 -- the lowest byte of a number
 abbrev pub byteOf : ℕ → ℕ
 byteOf n = n % 256
@@ -64,9 +54,10 @@ unfoldable pub pollsBytes : List Finish → List ℕ
 pollsBytes [] = []
 pollsBytes (poll ∷ polls) = pollBytes poll ++ pollsBytes polls
 
--- the answer to a call: its number, its place, how many polls ended, and these
+-- the answer to a call: its number and its place on paper, how many polls ended, and these
 abbrev pub answerOf : Outcome → List Finish → List ℕ
-answerOf outcome polls = outcomeNumber outcome ∷ byteOf (outcomePlace outcome) ∷ byteOf (length polls) ∷ pollsBytes polls
+answerOf outcome polls =
+    paperOf outcome .number ∷ byteOf (paperOf outcome .place) ∷ byteOf (length polls) ∷ pollsBytes polls
 
 abbrev pub answerBytes : Step → List ℕ
 answerBytes step = answerOf (step .outcome) (step .finishes)

@@ -4,7 +4,8 @@ ghost use Prim.Native.Nat.{_+_, _*_, _≤_, _<_};
 ghost use lib.ListN.{length, take, drop};
 ghost use lib.Seq.{sets};
 ghost use Rattle.quantities.specs.Limits.{rowCapacity};
-ghost use Rattle.replay.specs.Format.{requestIn, readOf, outcomeNumber, outcomePlace, byteOf, pollBytes, pollsBytes, answerOf};
+ghost use Rattle.bench.specs.Refusal.{paperOf};
+ghost use Rattle.replay.specs.Format.{requestIn, readOf, byteOf, pollBytes, pollsBytes, answerOf};
 ghost use Rattle.replay.specs.Replay.{replayFrom, replay};
 use bench::Bench;
 use bench::Finish;
@@ -71,7 +72,7 @@ fn read_call(calls: &[u8], at: usize) -> Read
 
 // The number that answers a call: 0 where it was taken.
 fn number_of(outcome: Outcome) -> u8
-    ensures { λ r. ⌜ r ≡ outcomeNumber outcome ⌝ }
+    ensures { λ r. ⌜ r ≡ paperOf outcome .number ⌝ }
 {
     let Outcome::Refused(why) = outcome else {
         return 0;
@@ -88,7 +89,7 @@ fn number_of(outcome: Outcome) -> u8
 
 // The place that stands with it.
 fn place_of(outcome: Outcome) -> usize
-    ensures { λ r. ⌜ r ≡ outcomePlace outcome ⌝ }
+    ensures { λ r. ⌜ r ≡ paperOf outcome .place ⌝ }
 {
     let Outcome::Refused(why) = outcome else {
         return 0;

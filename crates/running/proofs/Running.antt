@@ -1,6 +1,6 @@
 -- Demand 3: what the invariant says of one bench and one call, and the theorem over every history.
 use Prim.Native.Nat.{ℕ, suc, _+_, _-_, _≤_, _<_}
-use mathlib.Core.Path.{_≡_, refl}
+use mathlib.Core.Path.{_≡_, refl, sym, ap, _∙_}
 use mathlib.Core.Bool.{true}
 use mathlib.Core.List.{List, []}
 use mathlib.Core.Option.{Option, none, some}
@@ -12,14 +12,15 @@ use Rattle.quantities.specs.declared.Row.{Row}
 use Rattle.quantities.specs.declared.Table.{Table}
 use Rattle.quantities.specs.Table.{rowsOf}
 use Rattle.quantities.specs.Checks.{SoundList}
+use Rattle.quantities.specs.Paper.{Paper, paper}
 use Rattle.bench.specs.declared.Last.{Last}
 use Rattle.bench.specs.declared.Last.the-variants.{Never, At}
 use Rattle.bench.specs.declared.Bench.{Bench}
 use Rattle.bench.specs.declared.Refusal.{Refusal}
 use Rattle.bench.specs.declared.Refusal.the-variants.{Unfinished}
-use Rattle.bench.specs.declared.Outcome.the-variants.{Taken, Refused}
+use Rattle.bench.specs.declared.Outcome.the-variants.{Taken}
 use Rattle.bench.specs.Record.{rows, rowAt, stateAt}
-use Rattle.bench.specs.Refusal.{firstRefusal, releaseTests, tickTests, placeOf}
+use Rattle.bench.specs.Refusal.{firstRefusal, releaseTests, tickTests, refusalPaper, paperOf}
 use Rattle.bench.specs.Serving.{units, finished}
 use Rattle.bench.specs.Step.{unless, started, release, served, taken, tick, emptyBench}
 use Rattle.bench.specs.History.{Call, releases, ticks, doCall, after}
@@ -39,6 +40,12 @@ less-ago : (now bound : ℕ) (last : Last) → isAt last ≡ true → now < inst
     → LessAgo now bound last
 less-ago now bound Never at h = let z : _≡_ {A = ℕ} 0 1 = cc in absurd (omega arith)
 less-ago now bound (At at) is h = h
+
+-- a refusal that is 21 on paper names its row
+named-unfinished : (place other : ℕ) (why : Refusal) → why ≡ Unfinished other → refusalPaper why ≡ paper 21 place
+    → other ≡ place
+unfolding refusalPaper
+named-unfinished place other why is says = ap (λ (p : Paper). p .place) (ap refusalPaper (sym is) ∙ says)
 
 module _ {M : ℕ} {list : List Row} {bounds : List ℕ} (b : Bench) (run : InRun M list bounds b) where
   -- what is known of the row at a place
@@ -64,33 +71,28 @@ module _ {M : ℕ} {list : List Row} {bounds : List ℕ} (b : Bench) (run : InRu
 
   pub release-not-unfinished : (place : ℕ) → 1 ≤ place → place ≤ length bounds → (other demand : ℕ)
       → NotUnfinished place (release b other demand)
-  unfolding release unless placeOf
-  release-not-unfinished place first within other demand refuses =
-      go (firstRefusal (releaseTests b other demand)) refl (refuses .says)
+  unfolding release unless paperOf
+  release-not-unfinished place first within other demand = go (firstRefusal (releaseTests b other demand)) refl
     where
       go : (refusal : Option Refusal) → firstRefusal (releaseTests b other demand) ≡ refusal
-          → unless refusal
-          (record { outcome = Taken; finishes = []; bench = started b other demand }) b .outcome
-          ≡ Refused (refuses .why)
+          → paperOf
+          (unless refusal (record { outcome = Taken; finishes = []; bench = started b other demand }) b .outcome)
+          ≡ paper 21 place
           → ⊥
-      go none e says = let z : _≡_ {A = ℕ} 0 1 = cc in omega arith
+      go none e says = let no : _≡_ {A = ℕ} 0 21 = ap (λ (p : Paper). p .number) says in omega arith
       go (some why) e says =
-          let is : why ≡ refuses .why = cc in
-          let found : firstRefusal (releaseTests b other demand) ≡ some (refuses .why) = rw is at e in
-          let unfinished = release-unfinished b other demand (refuses .why) found (refuses .number-is) in
-          let named : placeOf (Unfinished other) ≡ place = rw (unfinished .why-is) at (refuses .place-is) in
-          none-unfinished other (omega arith) (omega arith) (refuses .why) unfinished
+          let unfinished = release-unfinished b other demand why e (ap (λ (p : Paper). p .number) says) in
+          let here = named-unfinished place other why (unfinished .why-is) says in
+          none-unfinished other (omega arith) (omega arith) why unfinished
 
   tick-not-unfinished : (place : ℕ) → NotUnfinished place (tick b)
-  unfolding tick unless taken
-  tick-not-unfinished place refuses = go (firstRefusal (tickTests b)) refl (refuses .says)
+  unfolding tick unless taken paperOf
+  tick-not-unfinished place = go (firstRefusal (tickTests b)) refl
     where
       go : (refusal : Option Refusal) → firstRefusal (tickTests b) ≡ refusal
-          → unless refusal (taken b) b .outcome ≡ Refused (refuses .why) → ⊥
-      go none e says = let z : _≡_ {A = ℕ} 0 1 = cc in omega arith
-      go (some why) e says =
-          let is : why ≡ refuses .why = cc in
-          tick-refusal b (refuses .why) (rw is at e) (refuses .number-is)
+          → paperOf (unless refusal (taken b) b .outcome) ≡ paper 21 place → ⊥
+      go none e says = let no : _≡_ {A = ℕ} 0 21 = ap (λ (p : Paper). p .number) says in omega arith
+      go (some why) e says = tick-refusal b why e (ap (λ (p : Paper). p .number) says)
 
   -- the polls that end in a tick
   tick-ends : (place : ℕ) → 1 ≤ place → place ≤ length bounds
@@ -140,7 +142,7 @@ module _ {M : ℕ} {list : List Row} {bounds : List ℕ} (place : ℕ)
         over-in-time = bench-over (after start calls) end place first within;
         ends-in-time = run-steps (EndsInTime place (boundAt bounds place)) call-ends start calls run;
         not-unfinished = run-steps (NotUnfinished place) call-not-unfinished start calls run;
-        can-be-released = release-not-unfinished (after start calls) end place first within place;
+        next-not-unfinished = release-not-unfinished (after start calls) end place first within place;
       }
 
 -- an empty bench is in a run

@@ -16,13 +16,13 @@ use Rattle.bench.specs.declared.Refusal.{Refusal}
 use Rattle.bench.specs.declared.Refusal.the-variants.{NoPlace, Unfinished, TooSoon, WrongDemand}
 use Rattle.bench.specs.declared.Refusal.the-variants.{ClockEnd, BrokenRecord}
 use Rattle.bench.specs.Record.{rows, rowAt, stateAt, work, broken, lastInstant}
-use Rattle.bench.specs.Refusal.{test, firstRefusal, tooSoon, releaseTests, tickTests, numberOf}
+use Rattle.bench.specs.Refusal.{test, firstRefusal, tooSoon, releaseTests, tickTests, refusalPaper}
 use Rattle.bench.proofs.Permitted.{may-release}
 use Rattle.running.proofs.State.{isAt, instantOf, ever, came}
 use Rattle.running.proofs.Release.{Allowed}
 
 -- a refusal of another number is not this one
-same-number : (why other : Refusal) → some other ≡ some why → numberOf why ≡ 21 → numberOf other ≡ 21
+same-number : (why other : Refusal) → some other ≡ some why → refusalPaper why .number ≡ 21 → refusalPaper other .number ≡ 21
 same-number why other e n = let is : why ≡ other = cc in rw is at n
 
 -- where the tests of a release in their order end with 21, the last fails and the one before it does not
@@ -35,8 +35,8 @@ last-failed : (place : ℕ) (t29 t20 t23 t22 t21 : Bool) (why : Refusal)
     ∷ test (Unfinished place) t21
     ∷ [])
     ≡ some why
-    → numberOf why ≡ 21 → (why ≡ Unfinished place) × ((t22 ≡ false) × (t21 ≡ true))
-unfolding firstRefusal numberOf
+    → refusalPaper why .number ≡ 21 → (why ≡ Unfinished place) × ((t22 ≡ false) × (t21 ≡ true))
+unfolding firstRefusal refusalPaper
 last-failed p false false false false true why e n = (cc, (refl, refl))
 last-failed p false false false false false why e n = let z : _≡_ {A = ℕ} 0 1 = cc in absurd (omega arith)
 last-failed p false false false true t21 why e n = absurd (omega (arith, same-number why (TooSoon p) e n))
@@ -71,7 +71,7 @@ module _ (b : Bench) (place demand : ℕ) where
 
   -- a release that is refused with 21 keeps the gap, and there is work left
   pub release-unfinished : (why : Refusal) → firstRefusal (releaseTests b place demand) ≡ some why
-      → numberOf why ≡ 21
+      → refusalPaper why .number ≡ 21
       → UnfinishedAt b place why
   unfolding releaseTests
   release-unfinished why e n =
@@ -86,13 +86,13 @@ module _ (b : Bench) (place demand : ℕ) where
       }
 
 -- a tick is never refused with 21
-pub tick-refusal : (b : Bench) (why : Refusal) → firstRefusal (tickTests b) ≡ some why → numberOf why ≡ 21
+pub tick-refusal : (b : Bench) (why : Refusal) → firstRefusal (tickTests b) ≡ some why → refusalPaper why .number ≡ 21
     → ⊥
-unfolding tickTests firstRefusal numberOf
+unfolding tickTests firstRefusal refusalPaper
 tick-refusal b = go (broken b) (eqb (b .now .0) lastInstant)
   where
     go : (t29 t24 : Bool) (why : Refusal)
-        → firstRefusal (test BrokenRecord t29 ∷ test ClockEnd t24 ∷ []) ≡ some why → numberOf why ≡ 21 → ⊥
+        → firstRefusal (test BrokenRecord t29 ∷ test ClockEnd t24 ∷ []) ≡ some why → refusalPaper why .number ≡ 21 → ⊥
     go false false why e n = let z : _≡_ {A = ℕ} 0 1 = cc in omega arith
     go false true why e n = omega (arith, same-number why ClockEnd e n)
     go true t24 why e n = omega (arith, same-number why BrokenRecord e n)

@@ -7,15 +7,14 @@ use lib.ListN.{length, getD}
 use Rattle.laws.specs.Each.{Each}
 use Rattle.quantities.specs.declared.Table.{Table}
 use Rattle.quantities.specs.Table.{rowsOf}
+use Rattle.quantities.specs.Paper.{paper}
 use Rattle.windows.specs.Answer.{judged}
 use Rattle.bench.specs.declared.Last.{Last}
 use Rattle.bench.specs.declared.Last.the-variants.{Never, At}
 use Rattle.bench.specs.declared.Bench.{Bench}
 use Rattle.bench.specs.declared.Finish.{Finish}
-use Rattle.bench.specs.declared.Refusal.{Refusal}
-use Rattle.bench.specs.declared.Outcome.the-variants.{Refused}
 use Rattle.bench.specs.Record.{stateAt, work}
-use Rattle.bench.specs.Refusal.{numberOf, placeOf}
+use Rattle.bench.specs.Refusal.{paperOf}
 use Rattle.bench.specs.Step.{Step, opened, release}
 use Rattle.bench.specs.History.{Call, after, steps}
 
@@ -41,16 +40,9 @@ abbrev pub EndsInTime : (place bound : ℕ) → Step → Type 0
 EndsInTime place bound step =
     Each (λ (poll : Finish). poll .place ≡ place → poll .response .0 ≤ bound) (step .finishes)
 
--- A step is refused with this number at this place.
-pub record Refuses (number place : ℕ) (step : Step) : Type 0 where
-  pub why : Refusal
-  pub says : step .outcome ≡ Refused why
-  pub number-is : numberOf why ≡ number
-  pub place-is : placeOf why ≡ place
-
 -- The step does not answer 21 for the row at a place: that its last poll is unfinished.
 abbrev pub NotUnfinished : (place : ℕ) → Step → Type 0
-NotUnfinished place step = Refuses 21 place step → ⊥
+NotUnfinished place step = paperOf (step .outcome) ≡ paper 21 place → ⊥
 
 -- A bound holds for the row at a place in a history of calls from a bench: in the state after the history, in
 -- every step of it, and for any release that may come next.
@@ -58,7 +50,7 @@ pub record Holds (start : Bench) (calls : List Call) (place bound : ℕ) : Type 
   pub over-in-time : OverInTime place bound (after start calls)
   pub ends-in-time : Each (EndsInTime place bound) (steps start calls)
   pub not-unfinished : Each (NotUnfinished place) (steps start calls)
-  pub can-be-released : (demand : ℕ) → NotUnfinished place (release (after start calls) place demand)
+  pub next-not-unfinished : (demand : ℕ) → NotUnfinished place (release (after start calls) place demand)
 
 -- Demand 3. A bench is opened for a table, and any calls are made on it, refused ones among them. Then the
 -- bound of every row that has one holds.

@@ -14,7 +14,8 @@ use Rattle.quantities.specs.declared.Table.{Table}
 use Rattle.quantities.specs.declared.Fault.{Fault}
 use Rattle.quantities.proofs.Sound.{sound-list-means}
 use Rattle.quantities.proofs.Rows.{length-rows}
-use Rattle.windows.specs.Answer.{Judged, judged, paperOf}
+use Rattle.quantities.specs.Paper.{faultPaper}
+use Rattle.windows.specs.Answer.{Judged, judged}
 use Rattle.windows.specs.Judgement.{AllShown, FirstNotShown}
 use Rattle.windows.specs.declared.Answer.{Answer}
 use Rattle.windows.specs.declared.Answer.the-variants.{Shown, NotShown, Refused}
@@ -112,7 +113,7 @@ module _ (sheet : Sheet) (table : Table) (analysis : Analysis) (a : Analysed she
       omega (arith, not-shown-counts (sheet .cores) (rowsOf table) place (answer-is ∙ e) .0) in
       text-is (NotShown place) e ∙ rw (lines-are, same) refl
 
-  pub text-refused : (fault : Fault) → analysis .answer ≡ Refused fault → sheetText sheet ≡ paperLine (paperOf (Refused fault))
+  pub text-refused : (fault : Fault) → analysis .answer ≡ Refused fault → sheetText sheet ≡ paperLine (faultPaper fault)
   unfolding judgedText
   text-refused fault e = text-is (Refused fault) e
 
@@ -143,7 +144,7 @@ judged-some sheet rows j = go (j .answer) refl
     go : (answer : Answer) → j .answer ≡ answer → 0 < length (judgedText sheet rows j)
     go Shown e = rw (e, judgedText, length-append) (omega arith)
     go (NotShown place) e = rw (e, judgedText) (simp length-append (omega arith))
-    go (Refused fault) e = rw (e, judgedText) (refused-some (paperOf (Refused fault) .number) (paperOf (Refused fault) .place))
+    go (Refused fault) e = rw (e, judgedText) (refused-some (faultPaper fault .number) (faultPaper fault .place))
 
 pub text-some : (bytes : List ℕ) → 0 < length (textOf bytes)
 unfolding textOf outcomeText sheetText

@@ -8,7 +8,8 @@ use Rattle.windows.specs.Window.{plain, carry, limit, interference}
 use Rattle.windows.specs.Choice.{most, passes}
 use Rattle.windows.specs.Least.{firstOf, least}
 use Rattle.windows.specs.Bound.{window, boundsBelow}
-use Rattle.windows.specs.Answer.{verdict, judgedAfter, judged, paperOf}
+use Rattle.quantities.specs.Paper.{faultPaper}
+use Rattle.windows.specs.Answer.{verdict, judgedAfter, judged}
 use Rattle.sheet.specs.Bytes.{numberAfter, field}
 use Rattle.sheet.specs.Records.{recordLength, rowFields, wholeRecord, recordOn, kindOf, isEnd}
 use Rattle.sheet.specs.Entries.{ticksOf, entryOf, boardSheet, entriesOf, used, inserted, withEntry, tableWith, tableOf}
@@ -22,7 +23,7 @@ use Rattle.text.specs.Text.{boundLines, judgedText, sheetText, outcomeTe
 
 -- the text of a sheet, with all that it rests on opened so that it computes
 unfoldable text : List ℕ → List ℕ
-unfolding textOf outcomeText sheetText judgedText boundLines firstLine rowLine rowLines shownLine notShownLine refusedLine decimal digitsIn readOf readFrom newReading noSheet boardSheet recordOn recordLength kindOf isEnd wholeRecord rowFields field numberAfter recordChecks misplaced boardChecks recordRowChecks endChecks verdictOf afterRecord withEntry inserted entriesOf entryOf ticksOf used whole refused tableOf tableWith withRow emptyTable rowsOf rowChecks rowsChecks listChecks firstFailing faultFrom listFault plain carry limit interference most passes firstOf least window boundsBelow verdict judgedAfter judged paperOf
+unfolding textOf outcomeText sheetText judgedText boundLines firstLine rowLine rowLines shownLine notShownLine refusedLine decimal digitsIn readOf readFrom newReading noSheet boardSheet recordOn recordLength kindOf isEnd wholeRecord rowFields field numberAfter recordChecks misplaced boardChecks recordRowChecks endChecks verdictOf afterRecord withEntry inserted entriesOf entryOf ticksOf used whole refused tableOf tableWith withRow emptyTable rowsOf rowChecks rowsChecks listChecks firstFailing faultFrom listFault plain carry limit interference most passes firstOf least window boundsBelow verdict judgedAfter judged faultPaper
 text sheet = textOf sheet
 
 abbrev board : List ℕ

@@ -4,7 +4,8 @@ use mathlib.Core.List.{List, _++_}
 use lib.ListN.{length, getD}
 use Rattle.quantities.specs.Table.{rowsOf}
 use Rattle.quantities.specs.declared.Row.{Row}
-use Rattle.windows.specs.Answer.{Judged, judged, Paper, paperOf}
+use Rattle.quantities.specs.Paper.{Paper, faultPaper}
+use Rattle.windows.specs.Answer.{Judged, judged}
 use Rattle.windows.specs.declared.Answer.the-variants.{Shown, NotShown, Refused}
 use Rattle.sheet.specs.Entries.{noEntry, tableOf}
 use Rattle.sheet.specs.Reader.{readOf}
@@ -35,7 +36,7 @@ judgedText sheet rows j =
     elim (j .answer) [
       | Shown ↦ boundLines sheet rows (j .bounds) ++ shownLine
       | NotShown place ↦ boundLines sheet rows (j .bounds) ++ notShownLine place (labelAt sheet (place - 1))
-      | Refused fault ↦ paperLine (paperOf (Refused fault))
+      | Refused fault ↦ paperLine (faultPaper fault)
     ]
 
 -- the text for a sheet that was read without fault

@@ -14,7 +14,7 @@ use windows::Answer;
 ghost use Prim.Native.Nat.{_+_, _*_, _≤_};
 ghost use lib.ListN.{length};
 ghost use Rattle.quantities.specs.Limits.{rowCapacity};
-ghost use Rattle.windows.specs.Answer.{paperOf};
+ghost use Rattle.quantities.specs.Paper.{faultPaper};
 ghost use Rattle.windows.specs.declared.Answer.the-variants.{Refused};
 ghost use Rattle.analysis.specs.Analysis.{numbers};
 ghost use Rattle.text.specs.Buffer.{Puts};
@@ -31,8 +31,8 @@ pub const TEXT_ROOM: usize = 2856;
 // The line of a fault: of the whole list at place 0, else of the row at its place.
 fn put_fault(out: &mut [u8], fault: Fault) -> usize
     requires { ⌜ lineRoom ≤ length (now out) ⌝ }
-    ensures { λ r. ⌜ Puts (now (out .entry)) 0 (paperLine (paperOf (Refused fault))) (now (out .exit)) r ⌝ }
-    ensures { λ r. ⌜ length (paperLine (paperOf (Refused fault))) ≤ lineRoom ⌝ }
+    ensures { λ r. ⌜ Puts (now (out .entry)) 0 (paperLine (faultPaper fault)) (now (out .exit)) r ⌝ }
+    ensures { λ r. ⌜ length (paperLine (faultPaper fault)) ≤ lineRoom ⌝ }
 {
     match fault {
         Fault::WholeList(number) => put_refused_line(out, 0, number, 0),

@@ -7,4 +7,5 @@ pub mod Jump
 pub mod Room
 pub mod Far
 pub mod Judgement
+pub mod Into
 pub mod Prefix

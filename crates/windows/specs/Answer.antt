@@ -6,9 +6,9 @@ use mathlib.Core.Option.{Option, none, some}
 use lib.Dec.{eqb}
 use lib.ListN.{length, drop}
 use Rattle.quantities.specs.Checks.{listFault, lentFault}
+use Rattle.quantities.specs.Paper.{Paper, paper, noRefusal, faultPaper}
 use Rattle.quantities.specs.declared.Row.{Row}
 use Rattle.quantities.specs.declared.Fault.{Fault}
-use Rattle.quantities.specs.declared.Fault.the-variants.{WholeList, OneRow}
 use Rattle.windows.specs.declared.Answer.{Answer}
 use Rattle.windows.specs.declared.Answer.the-variants.{Shown, NotShown, Refused}
 use Rattle.windows.specs.Bound.{boundsBelow}
@@ -43,13 +43,8 @@ judgedInto M entries rows = judgedAfter (lentFault M entries rows) M rows
 unfoldable pub written : Judged → List ℕ → List ℕ
 written j entries = j .bounds ++ drop (length (j .bounds)) entries
 
--- Number and place of document 01 for each answer; 0 at 0 stands for no refusal.
-pub record Paper : Type 0 where
-  pub number : ℕ
-  pub place : ℕ
-
+-- an answer on paper: 8 at the place of the first row not shown
 unfoldable pub paperOf : Answer → Paper
-paperOf Shown = record { number = 0; place = 0 }
-paperOf (NotShown place) = record { number = 8; place = place }
-paperOf (Refused (WholeList number)) = record { number = number; place = 0 }
-paperOf (Refused (OneRow number place)) = record { number = number; place = place }
+paperOf Shown = noRefusal
+paperOf (NotShown place) = paper 8 place
+paperOf (Refused fault) = faultPaper fault

@@ -21,23 +21,23 @@ aboveAt rows bounds zero = []
 aboveAt rows bounds (suc k) = bounded (rowAt rows k) (getD bounds k 0) ∷ aboveAt rows bounds k
 
 -- Every row has its bound.
-pub record AllShown (rows : List Row) (judged : Judged) : Type 0 where
-  pub says : judged .answer ≡ Shown
-  pub each : length (judged .bounds) ≡ length rows
+pub record AllShown (rows : List Row) (j : Judged) : Type 0 where
+  pub says : j .answer ≡ Shown
+  pub each : length (j .bounds) ≡ length rows
 
 -- The row below those with bounds is named, and no window passes for it.
-pub record FirstNotShown (M : ℕ) (rows : List Row) (judged : Judged) : Type 0 where
-  pub says : judged .answer ≡ NotShown (suc (length (judged .bounds)))
-  pub stands : length (judged .bounds) < length rows
-  pub none : NoBound M (aboveAt rows (judged .bounds) (length (judged .bounds)))
-      (rowAt rows (length (judged .bounds)))
+pub record FirstNotShown (M : ℕ) (rows : List Row) (j : Judged) : Type 0 where
+  pub says : j .answer ≡ NotShown (suc (length (j .bounds)))
+  pub stands : length (j .bounds) < length rows
+  pub none : NoBound M (aboveAt rows (j .bounds) (length (j .bounds)))
+      (rowAt rows (length (j .bounds)))
 
 -- The answer to rows that pass the checks: each bound is the least window from C to D that passes, and either every
 -- row has one, or the first row without is named, and it and the rows below it have none.
-pub record Judgement (M : ℕ) (rows : List Row) (judged : Judged) : Type 0 where
-  pub least : (k : ℕ) → k < length (judged .bounds)
-      → IsBound M (aboveAt rows (judged .bounds) k) (rowAt rows k) (getD (judged .bounds) k 0)
-  pub ends : AllShown rows judged ⊎ FirstNotShown M rows judged
+pub record Judgement (M : ℕ) (rows : List Row) (j : Judged) : Type 0 where
+  pub least : (k : ℕ) → k < length (j .bounds)
+      → IsBound M (aboveAt rows (j .bounds) k) (rowAt rows k) (getD (j .bounds) k 0)
+  pub ends : AllShown rows j ⊎ FirstNotShown M rows j
 
 -- Two answers are the same for places 1 to k: the same bounds, and the same place named, if one of these is.
 pub record SameDownTo (k : ℕ) (a b : Judged) : Type 0 where

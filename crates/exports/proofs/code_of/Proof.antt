@@ -3,6 +3,7 @@ use Prim.Native.Nat.{ℕ, _<_}
 use mathlib.Core.Path.{_≡_, refl, ap, sym, _∙_}
 use Rattle.quantities.specs.declared.Fault.{Fault}
 use Rattle.quantities.specs.declared.Fault.the-variants.{WholeList, OneRow}
+use Rattle.quantities.specs.Paper.{faultPaper}
 use Rattle.windows.specs.Answer.{paperOf}
 use Rattle.windows.specs.declared.Answer.{Answer}
 use Rattle.windows.specs.declared.Answer.the-variants.{Shown, NotShown, Refused}
@@ -14,30 +15,30 @@ use Rattle.exports.proofs.code_of.Tie as tie
 -- the place of each case fits where the answer's does
 module _ (answer : Answer) (fits : FitsCode answer) where
   not-shown-fits : (place : ℕ) → answer ≡ NotShown place → place < placeLimit
-  unfolding paperOf
+  unfolding paperOf faultPaper
   not-shown-fits place e = rw e at fits
 
   one-row-fits : (number place : ℕ) → answer ≡ Refused (OneRow number place) → place < placeLimit
-  unfolding paperOf
+  unfolding paperOf faultPaper
   one-row-fits number place e = rw e at fits
 
 -- the code of each case
 module _ (answer : Answer) (r : ℕ) where
   shown-code : answer ≡ Shown → r ≡ 0 → r ≡ codeOf (paperOf answer)
-  unfolding paperOf
+  unfolding paperOf faultPaper
   shown-code e is = rw e is
 
   not-shown-code : (place : ℕ) → answer ≡ NotShown place → r ≡ coded 8 place → r ≡ codeOf (paperOf answer)
-  unfolding paperOf
+  unfolding paperOf faultPaper
   not-shown-code place e is = rw e is
 
   whole-list-code : (number : ℕ) → answer ≡ Refused (WholeList number) → r ≡ coded number 0 → r ≡ codeOf (paperOf answer)
-  unfolding paperOf
+  unfolding paperOf faultPaper
   whole-list-code number e is = rw e is
 
   one-row-code : (number place : ℕ) → answer ≡ Refused (OneRow number place) → r ≡ coded number place
       → r ≡ codeOf (paperOf answer)
-  unfolding paperOf
+  unfolding paperOf faultPaper
   one-row-code number place e is = rw e is
 
 enum-told : tie.Need-enum-told

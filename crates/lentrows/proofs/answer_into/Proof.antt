@@ -20,7 +20,8 @@ use Rattle.windows.specs.declared.Answer.the-variants.{Refused}
 use Rattle.analysis.specs.Analysis.{numbers, inArray, analysisOf}
 use Rattle.analysis.specs.declared.Analysis.{Analysis}
 use Rattle.lentrows.specs.Lent.{LentAnalysis, firstOf, shownBy}
-use Rattle.lentrows.proofs.Into.{into-faulty, into-short, into-room, few-bounds, shown-count, found-are}
+use Rattle.windows.proofs.Into.{into-faulty, into-short, into-room, few-bounds}
+use Rattle.lentrows.proofs.Counted.{shown-count, found-are}
 use borrow.Author.Needs.{needs}
 use Rattle.lentrows.proofs.answer_into.Statement.{statement}
 use Rattle.lentrows.proofs.answer_into.Tie as tie

@@ -1,5 +1,5 @@
 -- put_fault lays the line of the fault's number and place.
-use Rattle.windows.specs.Answer.{paperOf}
+use Rattle.quantities.specs.Paper.{faultPaper}
 use borrow.Author.Needs.{needs}
 use Rattle.text.proofs.put_fault.Statement.{statement}
 use Rattle.text.proofs.put_fault.Tie as tie
@@ -20,7 +20,7 @@ same-length : tie.Need-same-length
 same-length c = search needs
 
 returns : tie.Need-returns
-unfolding paperOf
+unfolding faultPaper
 returns c =
     rw (c .before .before .before .before .before .fault .given .1) (c .before .before .put-refused-line .ensures)
 
@@ -28,7 +28,7 @@ same-length-2 : tie.Need-same-length-2
 same-length-2 c = search needs
 
 returns-2 : tie.Need-returns-2
-unfolding paperOf
+unfolding faultPaper
 returns-2 c =
     rw (c .before .before .before .before .before .fault2 .given .1) (c .before .before .put-refused-line2 .ensures)
 

@@ -1,0 +1,26 @@
+-- A fault on paper has the number and the place of the check that made it.
+use Prim.Native.Nat.{ℕ, zero, suc}
+use mathlib.Core.Path.{_≡_, refl, ap, _∙_}
+use mathlib.Core.Bool.{Bool}
+use mathlib.Core.List.{List}
+use mathlib.Core.Option.{some}
+use Rattle.quantities.specs.Checks.{Check, check, firstFailing, FirstFailing, faultFrom}
+use Rattle.quantities.specs.Paper.{paper, faultPaper}
+use Rattle.quantities.specs.declared.Fault.{Fault}
+use Rattle.quantities.specs.declared.Fault.the-variants.{WholeList, OneRow}
+use Rattle.quantities.proofs.Sound.{first-found}
+
+-- The fault of checks, where one of them is the first that fails.
+pub record Turned (checks : List Check) (one : Check) : Type 0 where
+  pub fault : Fault
+  pub is-fault : faultFrom (firstFailing checks) ≡ some fault
+  pub on-paper : faultPaper fault ≡ paper (one .number) (one .place)
+
+pub turned-away : (checks : List Check) (one : Check) → FirstFailing checks one → Turned checks one
+unfolding faultFrom faultPaper
+turned-away checks one first = at (one .number) (one .place) (one .fails) (first-found checks one first)
+  where
+    at : (number place : ℕ) (fails : Bool) → firstFailing checks ≡ some (check number place fails)
+        → Turned checks (check number place fails)
+    at number zero fails e = record { fault = WholeList number; is-fault = ap faultFrom e; on-paper = refl }
+    at number (suc p) fails e = record { fault = OneRow number (suc p); is-fault = ap faultFrom e; on-paper = refl }
