@@ -10,18 +10,18 @@ use Rattle.laws.specs.Permuted.{Permuted, as-is, keep, swap, both}
 use Rattle.laws.proofs.Permuted.{permuted-back, permuted-length, permuted-each}
 use Rattle.quantities.specs.Limits.{rowCapacity}
 use Rattle.quantities.specs.declared.Micros.{Micros}
-use Rattle.sheet.specs.Records.{rowKind, rowFields, recordOn, sizeOf, isEnd}
+use Rattle.records.specs.Records.{rowKind, rowFields, recordOn, sizeOf, isEnd, OneRecord}
+use Rattle.records.specs.declared.Record.{Record}
+use Rattle.records.proofs.Records.{length-board, length-end}
 use Rattle.sheet.specs.Entries.{entryOf, entriesOf, used, insertedAll, sheetOf, Rising, Different}
 use Rattle.sheet.specs.Reader.{noSheet, newReading, afterRecord, refused, whole, readFrom, readOf}
-use Rattle.sheet.specs.Whole.{OneRecord, joined, entriesOn, coresOn, tickOn, Permitted, WholeSheet, bytesOf, MadeOf}
-use Rattle.sheet.specs.declared.Record.{Record}
+use Rattle.sheet.specs.Whole.{joined, entriesOn, coresOn, tickOn, Permitted, WholeSheet, bytesOf, MadeOf}
 use Rattle.sheet.specs.declared.Entry.{Entry}
 use Rattle.sheet.specs.declared.Sheet.{Sheet}
 use Rattle.sheet.specs.declared.Reading.{Reading}
 use Rattle.sheet.specs.declared.Verdict.{Verdict}
 use Rattle.sheet.specs.declared.Verdict.the-variants.{Sound, Refused}
 use Rattle.sheet.specs.declared.Outcome.{Outcome}
-use Rattle.sheet.proofs.Records.{length-board, length-end}
 use Rattle.sheet.proofs.Entries.{used-below}
 use Rattle.sheet.proofs.Checks.{sound-not-refused}
 use Rattle.sheet.proofs.Reader.{verdictAt, behind, read-refused, read-whole, read-on}

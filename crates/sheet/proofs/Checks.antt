@@ -9,15 +9,15 @@ use borrow.Author.Tests.{eq-eqb, ne-eqb, le-ltb, lt-leb, eqb-true, eqb-false, le
 use Rattle.quantities.specs.Limits.{rowCapacity}
 use Rattle.quantities.specs.Checks.{Check, check, firstFailing}
 use Rattle.quantities.specs.declared.Micros.{Micros}
-use Rattle.sheet.specs.Records.{boardKind, rowKind, endKind}
+use Rattle.records.specs.Records.{boardKind, rowKind, endKind}
+use Rattle.records.specs.declared.RowFields.{RowFields}
+use Rattle.records.specs.declared.Record.the-variants.{Missing, Unknown, Cut, Board, Row, End}
+use Rattle.records.proofs.Records.{length-end}
 use Rattle.sheet.specs.Entries.{entriesOf, used}
 use Rattle.sheet.specs.Checks.{topPriority, misplaced, boardChecks, rowChecks, endChecks, recordChecks, verdictOf}
-use Rattle.sheet.specs.declared.RowFields.{RowFields}
-use Rattle.sheet.specs.declared.Record.the-variants.{Missing, Unknown, Cut, Board, Row, End}
 use Rattle.sheet.specs.declared.Sheet.{Sheet}
 use Rattle.sheet.specs.declared.Reading.{Reading}
 use Rattle.sheet.specs.declared.Verdict.the-variants.{Sound, Refused}
-use Rattle.sheet.proofs.Records.{length-end}
 
 -- a verdict is not both
 pub sound-not-refused : (number place : ℕ) → Refused number place ≡ Sound → ⊥

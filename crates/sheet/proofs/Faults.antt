@@ -9,7 +9,7 @@ use lib.ListN.{length, drop}
 use Rattle.laws.specs.Each.{Each}
 use Rattle.quantities.specs.Checks.{Check, firstFailing, FirstFailing}
 use Rattle.quantities.proofs.Sound.{none-fails, first-failing}
-use Rattle.sheet.specs.Records.{isEnd}
+use Rattle.records.specs.Records.{isEnd}
 use Rattle.sheet.specs.Checks.{verdictOf}
 use Rattle.sheet.specs.Reader.{newReading, refused, whole, readOf}
 use Rattle.sheet.specs.Faults.{recordAt, checksAt, ReadTo, start, next, FirstFault, FaultAt}

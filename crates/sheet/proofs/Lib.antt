@@ -1,6 +1,4 @@
 -- Laws of the sheet's definitions.
-pub mod Bytes
-pub mod Records
 pub mod Entries
 pub mod Checks
 pub mod Reader
@@ -8,7 +6,6 @@ pub mod Faults
 pub mod Order
 pub mod Sheets
 pub mod Accepted
-pub mod Parts
 pub mod Whole
 pub mod Sound
 pub mod Answers

@@ -11,20 +11,20 @@ use lib.Seq.{take-all, getD-take}
 use borrow.Author.Tests.{lt-ltb}
 use Rattle.laws.proofs.Lists.{drop-take}
 use Rattle.quantities.specs.Limits.{rowCapacity}
-use Rattle.sheet.specs.Bytes.{field}
-use Rattle.sheet.specs.Records.{boardKind, rowKind, endKind, recordLength, rowFields, recordOn, kindOf, sizeOf, isEnd}
+use Rattle.records.specs.Bytes.{field}
+use Rattle.records.specs.Records.{boardKind, rowKind, endKind, recordLength, rowFields, recordOn, kindOf, sizeOf, isEnd}
+use Rattle.records.specs.declared.Record.{Record}
+use Rattle.records.specs.declared.Record.the-variants.{Missing, Unknown, Cut, Board, Row, End}
+use Rattle.records.proofs.Records.{Found, nothing, unknown, cut, board, row, end, found, length-board, length-row, length-end, length-most, on-unknown}
+use Rattle.records.proofs.Parts.{on-board, on-row, on-end, field-front, fields-front}
 use Rattle.sheet.specs.Entries.{entryOf, boardSheet, withEntry}
 use Rattle.sheet.specs.Checks.{misplaced, endChecks, recordChecks, verdictOf}
 use Rattle.sheet.specs.Reader.{newReading, noSheet, afterRecord, readFrom, readOf}
-use Rattle.sheet.specs.declared.Record.{Record}
-use Rattle.sheet.specs.declared.Record.the-variants.{Missing, Unknown, Cut, Board, Row, End}
 use Rattle.sheet.specs.declared.Entry.{Entry}
 use Rattle.sheet.specs.declared.Sheet.{Sheet}
 use Rattle.sheet.specs.declared.Reading.{Reading}
 use Rattle.sheet.specs.declared.Verdict.{Verdict}
 use Rattle.sheet.specs.declared.Verdict.the-variants.{Sound, Refused}
-use Rattle.sheet.proofs.Records.{Found, nothing, unknown, cut, board, row, end, found, length-board, length-row, length-end, length-most, on-unknown}
-use Rattle.sheet.proofs.Parts.{on-board, on-row, on-end, field-front, fields-front}
 use Rattle.sheet.proofs.Checks.{sound-not-refused, missing-not-sound, unknown-not-sound, cut-not-sound, board-misplaced, row-misplaced, row-placed, sound-row}
 use Rattle.sheet.proofs.Reader.{verdictAt, behind, sound-within, read-refused, read-whole, read-on}
 

@@ -6,15 +6,15 @@ use mathlib.Core.Bool.{Bool, true, false}
 use mathlib.Core.List.{List, [], _∷_}
 use lib.ListN.{length, getD, drop, length-drop}
 use lib.Seq.{drop-drop}
-use Rattle.sheet.specs.Records.{recordLength, recordOn, kindOf, sizeOf, isEnd}
+use Rattle.records.specs.Records.{recordLength, recordOn, kindOf, sizeOf, isEnd}
+use Rattle.records.specs.declared.Record.{Record}
+use Rattle.records.proofs.Records.{Found, nothing, unknown, cut, board, row, end, found, length-board, length-row, length-end}
 use Rattle.sheet.specs.Checks.{recordChecks, verdictOf}
 use Rattle.sheet.specs.Reader.{newReading, afterRecord, refused, whole, readFrom, readOf}
-use Rattle.sheet.specs.declared.Record.{Record}
 use Rattle.sheet.specs.declared.Reading.{Reading}
 use Rattle.sheet.specs.declared.Verdict.{Verdict}
 use Rattle.sheet.specs.declared.Verdict.the-variants.{Sound, Refused}
 use Rattle.sheet.specs.declared.Outcome.{Outcome}
-use Rattle.sheet.proofs.Records.{Found, nothing, unknown, cut, board, row, end, found, length-board, length-row, length-end}
 use Rattle.sheet.proofs.Checks.{missing-not-sound, unknown-not-sound, cut-not-sound}
 
 -- the verdict on the record that stands on a part

@@ -5,8 +5,8 @@ use mathlib.Core.List.{List, [], _∷_, _++_}
 use lib.ListN.{replicate}
 use Rattle.quantities.specs.Row.{rowOf}
 use Rattle.quantities.specs.declared.Row.{Row}
-use Rattle.sheet.specs.Bytes.{numberAfter, field}
-use Rattle.sheet.specs.Records.{recordLength, rowFields, wholeRecord, recordOn, kindOf, isEnd}
+use Rattle.records.specs.Bytes.{numberAfter, field}
+use Rattle.records.specs.Records.{recordLength, rowFields, wholeRecord, recordOn, kindOf, isEnd}
 use Rattle.sheet.specs.Entries.{
   ticksOf,
   entryOf,

@@ -7,10 +7,10 @@ use lib.Dec.{eqb, leb, ltb}
 use Rattle.quantities.specs.Limits.{rowCapacity}
 use Rattle.quantities.specs.Checks.{Check, check, firstFailing}
 use Rattle.quantities.specs.declared.Micros.{Micros}
-use Rattle.sheet.specs.Records.{boardKind, rowKind, endKind, recordLength}
+use Rattle.records.specs.Records.{boardKind, rowKind, endKind, recordLength}
+use Rattle.records.specs.declared.Record.{Record}
+use Rattle.records.specs.declared.Record.the-variants.{Missing, Unknown, Cut, Board, Row, End}
 use Rattle.sheet.specs.Entries.{entriesOf, used}
-use Rattle.sheet.specs.declared.Record.{Record}
-use Rattle.sheet.specs.declared.Record.the-variants.{Missing, Unknown, Cut, Board, Row, End}
 use Rattle.sheet.specs.declared.Sheet.{Sheet}
 use Rattle.sheet.specs.declared.Reading.{Reading}
 use Rattle.sheet.specs.declared.Verdict.{Verdict}

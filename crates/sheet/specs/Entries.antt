@@ -12,7 +12,7 @@ use Rattle.quantities.specs.Table.{emptyTable, withRow}
 use Rattle.quantities.specs.declared.Micros.{Micros}
 use Rattle.quantities.specs.declared.Ticks.{Ticks}
 use Rattle.quantities.specs.declared.Table.{Table}
-use Rattle.sheet.specs.declared.RowFields.{RowFields}
+use Rattle.records.specs.declared.RowFields.{RowFields}
 use Rattle.sheet.specs.declared.Entry.{Entry}
 use Rattle.sheet.specs.declared.Sheet.{Sheet}
 

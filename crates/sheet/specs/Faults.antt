@@ -6,10 +6,10 @@ use mathlib.Core.List.{List}
 use lib.ListN.{length, drop}
 use Rattle.laws.specs.Each.{Each}
 use Rattle.quantities.specs.Checks.{Check, FirstFailing}
-use Rattle.sheet.specs.Records.{recordOn, sizeOf, isEnd}
+use Rattle.records.specs.Records.{recordOn, sizeOf, isEnd}
+use Rattle.records.specs.declared.Record.{Record}
 use Rattle.sheet.specs.Checks.{recordChecks}
 use Rattle.sheet.specs.Reader.{newReading, afterRecord}
-use Rattle.sheet.specs.declared.Record.{Record}
 use Rattle.sheet.specs.declared.Reading.{Reading}
 
 -- what stands at a place of a sheet where a record should

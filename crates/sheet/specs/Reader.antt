@@ -4,11 +4,11 @@ use mathlib.Core.Bool.{true, false}
 use mathlib.Core.List.{List}
 use mathlib.Core.Option.{Option, none, some}
 use lib.ListN.{length, drop}
-use Rattle.sheet.specs.Records.{recordOn, sizeOf, isEnd}
+use Rattle.records.specs.Records.{recordOn, sizeOf, isEnd}
+use Rattle.records.specs.declared.Record.{Record}
+use Rattle.records.specs.declared.Record.the-variants.{Missing, Unknown, Cut, Board, Row, End}
 use Rattle.sheet.specs.Entries.{entryOf, boardSheet, withEntry}
 use Rattle.sheet.specs.Checks.{recordChecks, verdictOf}
-use Rattle.sheet.specs.declared.Record.{Record}
-use Rattle.sheet.specs.declared.Record.the-variants.{Missing, Unknown, Cut, Board, Row, End}
 use Rattle.sheet.specs.declared.Sheet.{Sheet}
 use Rattle.sheet.specs.declared.Reading.{Reading}
 use Rattle.sheet.specs.declared.Verdict.{Verdict}
@@ -64,12 +64,7 @@ readFrom (suc limit) reading at part =
 unfoldable pub readOf : List ℕ → Outcome
 readOf sheet = readFrom (suc (length sheet)) newReading 0 sheet
 
--- A refusal in the paper's terms: its number and its place.
-pub record Refusal : Type 0 where
-  pub number : ℕ
-  pub place : ℕ
-
--- the paper's number and place of each case of the answer; a sheet without fault has none
-unfoldable pub refusalOf : Verdict → Option Refusal
-refusalOf Sound = none
-refusalOf (Refused number place) = some (record { number = number; place = place })
+-- a verdict on paper
+unfoldable pub paperOf : Verdict → Paper
+paperOf Sound = noRefusal
+paperOf (Refused number place) = paper number place

@@ -2,20 +2,15 @@
 use Prim.Native.Nat.{ℕ, _≤_, _<_}
 use mathlib.Core.Path.{_≡_}
 use mathlib.Core.List.{List, [], _∷_, _++_}
-use lib.ListN.{length, getD}
+use lib.ListN.{length}
 use Rattle.laws.specs.Each.{Each}
 use Rattle.quantities.specs.Limits.{rowCapacity}
 use Rattle.quantities.specs.declared.Micros.{Micros}
-use Rattle.sheet.specs.Bytes.{field}
-use Rattle.sheet.specs.Records.{boardKind, rowKind, endKind, recordLength, rowFields}
+use Rattle.records.specs.Bytes.{field}
+use Rattle.records.specs.Records.{boardKind, rowKind, endKind, rowFields, OneRecord}
 use Rattle.sheet.specs.Entries.{entryOf, Different}
 use Rattle.sheet.specs.Checks.{topPriority}
 use Rattle.sheet.specs.declared.Entry.{Entry}
-
--- A part that is one whole record of a kind, and nothing more.
-pub record OneRecord (kind : ℕ) (part : List ℕ) : Type 0 where
-  pub of-kind : getD part 0 0 ≡ kind
-  pub in-full : length part ≡ recordLength kind
 
 -- parts one after the other
 unfoldable pub joined : List (List ℕ) → List ℕ

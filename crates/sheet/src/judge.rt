@@ -1,13 +1,13 @@
 //! The checks of a record, in the order of document 01.
 use crate::Reading;
-use crate::Record;
 use crate::Sheet;
 use crate::Verdict;
-use crate::parse::BOARD_KIND;
-use crate::parse::END_KIND;
-use crate::parse::ROW_KIND;
 use quantities::Micros;
 use quantities::Table;
+use records::BOARD_KIND;
+use records::END_KIND;
+use records::ROW_KIND;
+use records::Record;
 ghost use mathlib.Core.Path.{_≡_};
 ghost use Prim.Native.Nat.{_+_, _<_, _^_};
 ghost use Rattle.sheet.specs.Checks.{misplaced, boardChecks, rowChecks, endChecks};

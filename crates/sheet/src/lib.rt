@@ -1,38 +1,18 @@
-//! The order sheet of document 01: its records, the table that its rows give, and the reader.
+//! The order sheet of document 01: the table that its rows give, and the reader.
 use judge::check_record;
-use parse::record_on;
-use parse::size;
 use quantities::Micros;
 use quantities::Row;
 use quantities::Table;
+use records::Record;
+use records::is_end;
+use records::record_on;
+use records::size;
 use rows::entry_of;
 ghost use mathlib.Core.Path.{_≡_};
-ghost use Rattle.sheet.specs.Records.{isEnd};
 ghost use Rattle.sheet.specs.Reader.{newReading, afterRecord, refused, readOf};
 
 mod judge;
-mod parse;
 mod rows;
-
-// The fields of a row record, as they stand on the sheet.
-pub struct RowFields {
-    pub label: u32,
-    pub priority: u32,
-    pub c: Micros,
-    pub d: Micros,
-    pub t: Micros,
-}
-
-// What stands on the part of a sheet that begins where a record should: no byte, a kind that no record has,
-// a record of this kind that is cut short, or a whole record with its fields.
-pub enum Record {
-    Missing,
-    Unknown,
-    Cut(u8),
-    Board(u32, Micros),
-    Row(RowFields),
-    End(usize),
-}
 
 // A row of the table, in ticks, with the priority and the label that its record gave.
 pub struct Entry {
@@ -85,15 +65,6 @@ fn refuse(number: u32, place: usize) -> Outcome
         verdict: Verdict::Refused(number, place),
         sheet: sheet,
     }
-}
-
-fn is_end(found: Record) -> bool
-    ensures { λ r. ⌜ r ≡ isEnd found ⌝ }
-{
-    if let Record::End(_) = found {
-        return true;
-    }
-    false
 }
 
 // The reading after a record that nothing is wrong with.

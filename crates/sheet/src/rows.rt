@@ -1,11 +1,11 @@
 //! The rows of a sheet: microseconds become ticks, and each row goes to its place by priority.
 use crate::Entry;
-use crate::RowFields;
 use crate::Sheet;
 use quantities::Micros;
 use quantities::Row;
 use quantities::Table;
 use quantities::Ticks;
+use records::RowFields;
 ghost use mathlib.Core.Path.{_≡_};
 ghost use Rattle.sheet.specs.Entries.{ticksOf, entryOf, boardSheet};
 ghost use Rattle.sheet.specs.Entries.{entriesOf, used, withEntry, tableOf};

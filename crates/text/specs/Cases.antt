@@ -10,8 +10,8 @@ use Rattle.windows.specs.Least.{firstOf, least}
 use Rattle.windows.specs.Bound.{window, boundsBelow}
 use Rattle.quantities.specs.Paper.{faultPaper}
 use Rattle.windows.specs.Answer.{verdict, judgedAfter, judged}
-use Rattle.sheet.specs.Bytes.{numberAfter, field}
-use Rattle.sheet.specs.Records.{recordLength, rowFields, wholeRecord, recordOn, kindOf, isEnd}
+use Rattle.records.specs.Bytes.{numberAfter, field}
+use Rattle.records.specs.Records.{recordLength, rowFields, wholeRecord, recordOn, kindOf, isEnd}
 use Rattle.sheet.specs.Entries.{ticksOf, entryOf, boardSheet, entriesOf, used, inserted, withEntry, tableWith, tableOf}
 use Rattle.sheet.specs.Checks.{misplaced, boardChecks, endChecks, recordChecks, verdictOf}
 use Rattle.sheet.specs.Checks.{rowChecks as recordRowChecks}

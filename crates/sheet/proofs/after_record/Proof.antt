@@ -3,11 +3,10 @@ use denote.Enum.Declared.{tagOf}
 use types.Run.{OneOf, miss}
 use mathlib.Core.Path.{_≡_, refl, sym}
 use mathlib.Core.List.{[], _∷_}
-use Rattle.sheet.specs.declared.Record.{Record}
+use Rattle.records.specs.declared.Record.{Record}
+use Rattle.records.specs.declared.Record.the-variants.{Missing, Unknown, Cut, Board, Row, End}
+use Rattle.records.proofs.Record.{the-type}
 use Rattle.sheet.specs.declared.Reading.{Reading}
-use Rattle.sheet.specs.declared.Record.the-variants.{Missing, Unknown, Cut, Board, Row, End}
-use Rattle.sheet.proofs.Record.{the-type}
--- after_record answers the reading after a record.
 use Rattle.sheet.specs.Reader.{afterRecord}
 use borrow.Author.Needs.{needs}
 use Rattle.sheet.proofs.after_record.Statement.{statement}

@@ -5,7 +5,7 @@ use mathlib.Core.Path.{_≡_, sym, ap, _∙_}
 use borrow.Author.Needs.{needs}
 use lib.ListN.{length, take, drop, length-drop}
 use lib.Seq.{take-all}
-use Rattle.sheet.specs.Records.{recordOn, isEnd, sizeOf}
+use Rattle.records.specs.Records.{recordOn, isEnd, sizeOf}
 use Rattle.sheet.specs.Reader.{whole}
 use Rattle.sheet.proofs.Reader.{verdictAt, Within, Reads, reads-new, turn-refused, turn-whole, turn-within, turn-on}
 use Rattle.sheet.proofs.read.Statement.{statement}

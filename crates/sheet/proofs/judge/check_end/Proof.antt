@@ -1,8 +1,8 @@
 -- check_end answers the verdict on an end record's fields.
 use borrow.Author.Tests.{eq-eqb, ne-eqb, lt-ltb, le-ltb}
 use Rattle.quantities.specs.Checks.{firstFailing}
+use Rattle.records.proofs.Records.{length-end}
 use Rattle.sheet.specs.Checks.{endChecks, verdictOf}
-use Rattle.sheet.proofs.Records.{length-end}
 use borrow.Author.Needs.{needs}
 use Rattle.sheet.proofs.judge.check_end.Statement.{statement}
 use Rattle.sheet.proofs.judge.check_end.Tie as tie

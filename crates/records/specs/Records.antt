@@ -1,13 +1,14 @@
 -- The records of a sheet: a kind byte, then a body whose length the kind fixes.
 use Prim.Native.Nat.{ℕ, suc}
+use mathlib.Core.Path.{_≡_}
 use mathlib.Core.Bool.{Bool, true, false, cond}
 use mathlib.Core.List.{List, [], _∷_}
 use lib.Dec.{eqb, ltb}
-use lib.ListN.{length}
-use Rattle.sheet.specs.Bytes.{field}
-use Rattle.sheet.specs.declared.RowFields.{RowFields}
-use Rattle.sheet.specs.declared.Record.{Record}
-use Rattle.sheet.specs.declared.Record.the-variants.{Missing, Unknown, Cut, Board, Row, End}
+use lib.ListN.{length, getD}
+use Rattle.records.specs.Bytes.{field}
+use Rattle.records.specs.declared.RowFields.{RowFields}
+use Rattle.records.specs.declared.Record.{Record}
+use Rattle.records.specs.declared.Record.the-variants.{Missing, Unknown, Cut, Board, Row, End}
 
 abbrev pub boardKind : ℕ
 boardKind = 1
@@ -68,3 +69,8 @@ isEnd (Cut kind) = false
 isEnd (Board cores tick) = false
 isEnd (Row fields) = false
 isEnd (End count) = true
+
+-- A part that is one whole record of a kind, and nothing more.
+pub record OneRecord (kind : ℕ) (part : List ℕ) : Type 0 where
+  pub of-kind : getD part 0 0 ≡ kind
+  pub in-full : length part ≡ recordLength kind

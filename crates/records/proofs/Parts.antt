@@ -5,11 +5,10 @@ use mathlib.Core.Path.{_≡_, refl, sym, ap, _∙_}
 use mathlib.Core.List.{List, [], _∷_, _++_}
 use lib.ListN.{length, getD, take, drop, length-append, length-drop, length-take, take-append-drop, List·getD-append}
 use lib.Seq.{drop-append-le, take-append-le, getD-take}
-use Rattle.sheet.specs.Bytes.{field}
-use Rattle.sheet.specs.Records.{boardKind, rowKind, endKind, recordLength, rowFields, recordOn}
-use Rattle.sheet.specs.Whole.{OneRecord}
-use Rattle.sheet.specs.declared.Record.the-variants.{Board, Row, End}
-use Rattle.sheet.proofs.Records.{length-board, length-row, length-end, on-whole, whole-board, whole-row, whole-end}
+use Rattle.records.specs.Bytes.{field}
+use Rattle.records.specs.Records.{boardKind, rowKind, endKind, recordLength, rowFields, recordOn, OneRecord}
+use Rattle.records.specs.declared.Record.the-variants.{Board, Row, End}
+use Rattle.records.proofs.Records.{length-board, length-row, length-end, on-whole, whole-board, whole-row, whole-end}
 
 -- A whole record by its kind byte, where its bytes are there.
 module _ (part : List ℕ) where

@@ -1,9 +1,9 @@
 -- two_bytes answers the number in two bytes.
 use native.Mathlib.Omega.{arith}
-use Rattle.sheet.proofs.Bytes.{field-two}
+use Rattle.records.proofs.Bytes.{field-two}
 use borrow.Author.Needs.{needs}
-use Rattle.sheet.proofs.parse.two_bytes.Statement.{statement}
-use Rattle.sheet.proofs.parse.two_bytes.Tie as tie
+use Rattle.records.proofs.two_bytes.Statement.{statement}
+use Rattle.records.proofs.two_bytes.Tie as tie
 
 shared-slice-read-wide : tie.Need-shared-slice-read-wide
 shared-slice-read-wide c = search needs

@@ -6,7 +6,7 @@ use mathlib.Core.Path.{_≡_, refl}
 use mathlib.Core.List.{List, [], _∷_}
 use lib.ListN.{length, getD, take, drop}
 use lib.Seq.{drop-cons}
-use Rattle.sheet.specs.Bytes.{numberAfter, field}
+use Rattle.records.specs.Bytes.{numberAfter, field}
 
 module _ (part : List ℕ) (at : ℕ) where
   pub field-one : at + 1 ≤ length part → field at 1 part ≡ getD part at 0

@@ -1,12 +1,30 @@
-//! The record parser: the only place that knows a record's layout.
-use crate::Record;
-use crate::RowFields;
+//! The records of an order sheet, a kind byte and then a body: the only place that knows a record's layout.
 use quantities::Micros;
 ghost use mathlib.Core.Path.{_≡_};
 ghost use Prim.Native.Nat.{_+_, _≤_, _<_};
 ghost use lib.ListN.{length};
-ghost use Rattle.sheet.specs.Bytes.{field};
-ghost use Rattle.sheet.specs.Records.{recordLength, rowFields, recordOn, sizeOf};
+ghost use Rattle.records.specs.Bytes.{field};
+ghost use Rattle.records.specs.Records.{recordLength, rowFields, recordOn, sizeOf, isEnd};
+
+// The fields of a row record, as they stand on the sheet.
+pub struct RowFields {
+    pub label: u32,
+    pub priority: u32,
+    pub c: Micros,
+    pub d: Micros,
+    pub t: Micros,
+}
+
+// What stands on the part of a sheet that begins where a record should: no byte, a kind that no record has,
+// a record of this kind that is cut short, or a whole record with its fields.
+pub enum Record {
+    Missing,
+    Unknown,
+    Cut(u8),
+    Board(u32, Micros),
+    Row(RowFields),
+    End(usize),
+}
 
 pub const BOARD_KIND: u8 = 1;
 
@@ -127,4 +145,14 @@ pub fn size(found: Record) -> usize
         Record::Row(_) => record_length(ROW_KIND),
         Record::End(_) => record_length(END_KIND),
     }
+}
+
+// Whether a record is the end record.
+pub fn is_end(found: Record) -> bool
+    ensures { λ r. ⌜ r ≡ isEnd found ⌝ }
+{
+    if let Record::End(_) = found {
+        return true;
+    }
+    false
 }

@@ -1,9 +1,9 @@
 -- size answers how many bytes a record takes.
 use mathlib.Core.Path.{sym, ap, _∙_}
-use Rattle.sheet.specs.Records.{recordLength, kindOf, sizeOf}
+use Rattle.records.specs.Records.{recordLength, kindOf, sizeOf}
 use borrow.Author.Needs.{needs}
-use Rattle.sheet.proofs.parse.size.Statement.{statement}
-use Rattle.sheet.proofs.parse.size.Tie as tie
+use Rattle.records.proofs.size.Statement.{statement}
+use Rattle.records.proofs.size.Tie as tie
 
 enum-told : tie.Need-enum-told
 enum-told c = search needs

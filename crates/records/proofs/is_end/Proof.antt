@@ -4,14 +4,13 @@ use types.Run.{OneOf, miss}
 use mathlib.Core.Path.{_≡_, refl, sym}
 use mathlib.Core.Bool.{false}
 use mathlib.Core.List.{[], _∷_}
-use Rattle.sheet.specs.declared.Record.{Record}
-use Rattle.sheet.specs.declared.Record.the-variants.{Missing, Unknown, Cut, Board, Row, End}
-use Rattle.sheet.proofs.Record.{the-type}
--- is_end answers whether a record is the end record.
-use Rattle.sheet.specs.Records.{isEnd}
+use Rattle.records.specs.declared.Record.{Record}
+use Rattle.records.specs.declared.Record.the-variants.{Missing, Unknown, Cut, Board, Row, End}
+use Rattle.records.proofs.Record.{the-type}
+use Rattle.records.specs.Records.{isEnd}
 use borrow.Author.Needs.{needs}
-use Rattle.sheet.proofs.is_end.Statement.{statement}
-use Rattle.sheet.proofs.is_end.Tie as tie
+use Rattle.records.proofs.is_end.Statement.{statement}
+use Rattle.records.proofs.is_end.Tie as tie
 
 enum-told : tie.Need-enum-told
 enum-told c = search needs

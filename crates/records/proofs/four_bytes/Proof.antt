@@ -1,9 +1,9 @@
 -- four_bytes answers the number in four bytes.
 use native.Mathlib.Omega.{arith}
-use Rattle.sheet.proofs.Bytes.{field-four}
+use Rattle.records.proofs.Bytes.{field-four}
 use borrow.Author.Needs.{needs}
-use Rattle.sheet.proofs.parse.four_bytes.Statement.{statement}
-use Rattle.sheet.proofs.parse.four_bytes.Tie as tie
+use Rattle.records.proofs.four_bytes.Statement.{statement}
+use Rattle.records.proofs.four_bytes.Tie as tie
 
 two-bytes-requires : tie.Need-two-bytes-requires
 two-bytes-requires c κs = search needs

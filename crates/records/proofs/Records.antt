@@ -8,10 +8,10 @@ use lib.Dec.{eqb}
 use lib.ListN.{length, getD}
 use native.Mathlib.Decide.{ℕ-discrete, decLe}
 use borrow.Author.Tests.{eq-eqb, ne-eqb, lt-ltb, le-ltb, eqb-true}
-use Rattle.sheet.specs.Bytes.{field}
-use Rattle.sheet.specs.Records.{boardKind, rowKind, endKind, recordLength, rowFields, wholeRecord, recordOn}
-use Rattle.sheet.specs.declared.Record.{Record}
-use Rattle.sheet.specs.declared.Record.the-variants.{Missing, Unknown, Cut, Board, Row, End}
+use Rattle.records.specs.Bytes.{field}
+use Rattle.records.specs.Records.{boardKind, rowKind, endKind, recordLength, rowFields, wholeRecord, recordOn}
+use Rattle.records.specs.declared.Record.{Record}
+use Rattle.records.specs.declared.Record.the-variants.{Missing, Unknown, Cut, Board, Row, End}
 
 -- The lengths that the kinds fix.
 pub length-board : recordLength boardKind ≡ 4

@@ -2,12 +2,13 @@
 use native.Mathlib.Omega.{arith}
 use mathlib.Core.Path.{_≡_, sym, ap}
 use lib.ListN.{length, getD}
-use Rattle.sheet.specs.Records.{recordLength, wholeRecord, recordOn}
-use Rattle.sheet.proofs.Bytes.{field-one}
-use Rattle.sheet.proofs.Records.{length-board, length-row, other-length, on-nothing, on-unknown, on-cut, on-whole, whole-board, whole-row, whole-end}
+use Rattle.records.specs.Bytes.{field}
+use Rattle.records.specs.Records.{recordLength, wholeRecord, recordOn}
+use Rattle.records.proofs.Bytes.{field-one}
+use Rattle.records.proofs.Records.{length-board, length-row, other-length, on-nothing, on-unknown, on-cut, on-whole, whole-board, whole-row, whole-end}
 use borrow.Author.Needs.{needs}
-use Rattle.sheet.proofs.parse.record_on.Statement.{statement}
-use Rattle.sheet.proofs.parse.record_on.Tie as tie
+use Rattle.records.proofs.record_on.Statement.{statement}
+use Rattle.records.proofs.record_on.Tie as tie
 
 -- past the first three tests the record is whole
 whole : (c : tie.Else3) → recordOn (c .before .before .before .before .before .before .args .part .now) ≡ wholeRecord (getD (c .before .before .before .before .before .before .args .part .now) 0 0) (c .before .before .before .before .before .before .args .part .now)
@@ -58,6 +59,8 @@ returns-4 c =
     let part = c .before .before .before .before .before .before .before .before .before .before .before .args .part .now in
     let e = ap recordLength (c .before .before .before .before .if4 .taken) in
     let f = field-one part 1 (omega (arith, c .before .before .before .before .before .before .before .record-length .ensures, length-board)) in
+    let two = c .before .two-bytes in
+    let tick : two .result ≡ field 2 2 part = two .ensures .0 in
     let w = whole (c .before .before .before .before .before) in
     let b = whole-board (getD part 0 0) part (c .before .before .before .before .if4 .taken) in
     cc

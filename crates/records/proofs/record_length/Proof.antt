@@ -1,8 +1,8 @@
 -- record_length answers the length that the kind fixes.
 use borrow.Author.Tests.{eq-eqb, ne-eqb}
-use Rattle.sheet.specs.Records.{recordLength}
-use Rattle.sheet.proofs.parse.record_length.Statement.{statement}
-use Rattle.sheet.proofs.parse.record_length.Tie as tie
+use Rattle.records.specs.Records.{recordLength}
+use Rattle.records.proofs.record_length.Statement.{statement}
+use Rattle.records.proofs.record_length.Tie as tie
 
 returns : tie.Need-returns
 unfolding recordLength

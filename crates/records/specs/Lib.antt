@@ -1,0 +1,3 @@
+-- The numbers on a sheet, and its records.
+pub mod Bytes
+pub mod Records
