@@ -3,12 +3,12 @@ use Prim.Native.Nat.{ℕ, zero, suc, _+_, _<_}
 use native.Mathlib.Omega.{arith}
 use mathlib.Core.Path.{_≡_, refl, sym, ap, _∙_}
 use mathlib.Core.Bool.{Bool, true, false}
-use mathlib.Core.List.{List, [], _∷_, _++_}
+use mathlib.Core.List.{List}
 use mathlib.Core.Option.{Option, none, some}
 use lib.ListN.{length, drop}
 use Rattle.laws.specs.Each.{Each}
 use Rattle.quantities.specs.Checks.{Check, firstFailing, FirstFailing}
-use Rattle.quantities.proofs.Sound.{none-fails, first-failing}
+use Rattle.quantities.proofs.Sound.{none-fails, none-found, first-failing, first-found}
 use Rattle.records.specs.Records.{isEnd}
 use Rattle.sheet.specs.Checks.{verdictOf}
 use Rattle.sheet.specs.Reader.{newReading, refused, whole, readOf}
@@ -17,29 +17,18 @@ use Rattle.sheet.specs.declared.Reading.{Reading}
 use Rattle.sheet.specs.declared.Verdict.{Verdict}
 use Rattle.sheet.specs.declared.Verdict.the-variants.{Sound, Refused}
 use Rattle.sheet.specs.declared.Outcome.{Outcome}
-use Rattle.sheet.proofs.Checks.{sound-not-refused, verdict-fails, verdict-passes}
+use Rattle.sheet.proofs.Checks.{sound-not-refused}
 use Rattle.sheet.proofs.Reader.{Reads, reads-new, turn-refused, turn-whole, turn-within, turn-on}
 
 -- The verdict of checks, by the first that fails.
 verdict-none : (checks : List Check) → Each (λ one. one .fails ≡ false) checks → verdictOf checks ≡ Sound
-unfolding verdictOf firstFailing
-verdict-none [] passed = refl
-verdict-none (one ∷ rest) passed =
-    verdict-passes (one .number) (one .place) (one .fails) rest (passed .0) ∙ verdict-none rest (passed .1)
-
-verdict-behind : (before after : List Check) (one : Check) → one .fails ≡ true
-    → Each (λ earlier. earlier .fails ≡ false) before
-    → verdictOf (before ++ one ∷ after) ≡ Refused (one .number) (one .place)
-verdict-behind [] after one failed passed = verdict-fails (one .number) (one .place) (one .fails) after failed
-verdict-behind (earlier ∷ before) after one failed passed =
-    verdict-passes (earlier .number) (earlier .place) (earlier .fails) (before ++ one ∷ after) (passed .0)
-    ∙ verdict-behind before after one failed (passed .1)
+unfolding verdictOf
+verdict-none checks passed = rw (none-found checks passed, verdictOf)
 
 verdict-first : (checks : List Check) (one : Check) → FirstFailing checks one
     → verdictOf checks ≡ Refused (one .number) (one .place)
-verdict-first checks one first =
-    ap verdictOf (first .stands)
-    ∙ verdict-behind (first .before) (first .after) one (first .failed) (first .passed)
+unfolding verdictOf
+verdict-first checks one first = rw (first-found checks one first, verdictOf)
 
 -- A refusal's parts.
 same-refusal : (a b number place : ℕ) → Refused a b ≡ Refused number place → (a ≡ number) × (b ≡ place)

@@ -2,8 +2,8 @@
 use Prim.Native.Nat.{ℕ, zero, suc, _+_}
 use mathlib.Core.Bool.{true, false}
 use mathlib.Core.List.{List}
-use mathlib.Core.Option.{Option, none, some}
 use lib.ListN.{length, drop}
+use Rattle.quantities.specs.Paper.{Paper, paper, noRefusal}
 use Rattle.records.specs.Records.{recordOn, sizeOf, isEnd}
 use Rattle.records.specs.declared.Record.{Record}
 use Rattle.records.specs.declared.Record.the-variants.{Missing, Unknown, Cut, Board, Row, End}
