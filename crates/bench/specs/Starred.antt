@@ -83,5 +83,8 @@ claims =
     ∷ []
 
 pub starred : Each (λ claim. claim) claims
-unfolding caseEnded allEnded opened openedAfter emptyBench steps release tick unless started taken served moved broken rowsBroken rowBroken lastBroken isFault firstRefusal tooSoon releaseTests tickTests unit units less worked ends since finishOf finished rowsOf emptyTable withRow rowChecks rowsChecks listChecks firstFailing faultFrom listFault
+unfolding caseEnded allEnded opened openedAfter emptyBench steps release tick unless started taken served
+    moved broken rowsBroken rowBroken lastBroken isFault firstRefusal tooSoon releaseTests tickTests unit
+    units less worked ends since finishOf finished rowsOf emptyTable withRow rowChecks rowsChecks listChecks
+    firstFailing faultFrom listFault
 starred = (refl, tt)

@@ -66,7 +66,8 @@ fn code_of(answer: Answer) -> u64
 // The answer to a list of rows on a board with this many cores, with the bounds in the first entries of the lent list.
 #[no_mangle]
 pub extern "C" fn dipperslate_analyse(cores: u32, rows: &[[u64; 3]], bounds: &mut [u64]) -> u64
-    ensures { λ r. ⌜ Exported (judgedInto cores (length (now (bounds .entry))) (rowsFrom (now (rows .entry)))) (now (bounds .entry)) (now (bounds .exit)) r ⌝ }
+    ensures { λ r. ⌜ Exported (judgedInto cores (length (now (bounds .entry))) (rowsFrom (now (rows .entry))))
+        (now (bounds .entry)) (now (bounds .exit)) r ⌝ }
 {
     let table = load(rows);
     let answer = lentrows::answer_into(cores, table, bounds);

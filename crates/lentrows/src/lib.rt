@@ -69,7 +69,8 @@ fn write_bounds(found: [Ticks; Table::ROW_CAPACITY], shown: usize, bounds: &mut 
 
 // The answer to a table, with its bounds in the first entries of a lent list: checks 1 to 6, then 7, then the search.
 pub fn answer_into(cores: u32, table: Table, bounds: &mut [u64]) -> Answer
-    ensures { λ r. ⌜ LentAnalysis (judgedInto cores (length (now (bounds .entry))) (rowsOf table)) (now (bounds .entry)) (now (bounds .exit)) r ⌝ }
+    ensures { λ r. ⌜ LentAnalysis (judgedInto cores (length (now (bounds .entry))) (rowsOf table))
+        (now (bounds .entry)) (now (bounds .exit)) r ⌝ }
 {
     let checked = table.check(cores);
     match checked {
@@ -91,7 +92,8 @@ pub fn answer_into(cores: u32, table: Table, bounds: &mut [u64]) -> Answer
 
 // The answer to the caller's list of rows, which is only read, with its bounds in the first entries of a lent list.
 pub fn analyse_list(cores: u32, rows: &[Row], bounds: &mut [u64]) -> Answer
-    ensures { λ r. ⌜ LentAnalysis (judgedInto cores (length (now (bounds .entry))) (now (rows .entry))) (now (bounds .entry)) (now (bounds .exit)) r ⌝ }
+    ensures { λ r. ⌜ LentAnalysis (judgedInto cores (length (now (bounds .entry))) (now (rows .entry)))
+        (now (bounds .entry)) (now (bounds .exit)) r ⌝ }
 {
     let table = load(rows, rows.len());
     answer_into(cores, table, bounds)

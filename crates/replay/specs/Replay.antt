@@ -29,7 +29,8 @@ inFront none later = record { list = []; whole = false }
 inFront (some request) later = record { list = request ∷ later .list; whole = later .whole }
 
 unfoldable pub requestsIn : List ℕ → Requests
-requestsIn (kind ∷ place ∷ first ∷ second ∷ third ∷ fourth ∷ rest) = inFront (requestOf kind place first second third fourth) (requestsIn rest)
+requestsIn (kind ∷ place ∷ first ∷ second ∷ third ∷ fourth ∷ rest) =
+    inFront (requestOf kind place first second third fourth) (requestsIn rest)
 requestsIn (a ∷ b ∷ c ∷ d ∷ e ∷ []) = record { list = []; whole = false }
 requestsIn (a ∷ b ∷ c ∷ d ∷ []) = record { list = []; whole = false }
 requestsIn (a ∷ b ∷ c ∷ []) = record { list = []; whole = false }
@@ -54,7 +55,9 @@ answered whole b (request ∷ rest) place at out =
     let step = doCall b (callOf request) in
     elim (ltb (length out - at) (length (answerBytes step))) [
       | true ↦ record { answer = NoRoom place; out = out }
-      | false ↦ answered whole (step .bench) rest (place + 6) (at + length (answerBytes step)) (sets out at (answerBytes step))
+      | false ↦
+          answered whole (step .bench) rest (place + 6) (at + length (answerBytes step))
+          (sets out at (answerBytes step))
     ]
 
 -- a replay of bytes from a bench, and from the opening of one

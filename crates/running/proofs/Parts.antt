@@ -121,7 +121,8 @@ abbrev start : Bench
 start = emptyBench 2 board
 
 is-opened : opened 2 board ≡ some start
-unfolding rowsOf rowChecks rowsChecks listChecks firstFailing faultFrom listFault emptyBench openedAfter opened
+unfolding rowsOf rowChecks rowsChecks listChecks firstFailing faultFrom listFault emptyBench openedAfter
+    opened
 is-opened = refl
 
 abbrev poll : (place response : ℕ) → Finish
@@ -178,7 +179,10 @@ a & b = (a, b)
 
 -- Each part is needed: with one of them changed, the promise is false.
 pub each-part-needed : EachPartNeeded
-unfolding rowsOf rowChecks rowsChecks listChecks firstFailing faultFrom listFault lastBroken rowBroken rowsBroken isFault broken firstRefusal tooSoon releaseTests tickTests unit units workers less worked ends since finishOf finished emptyBench unless started release served moved taken tick idling early afterBy plain limit most firstOf least carryBy passesBy boundsBy
+unfolding rowsOf rowChecks rowsChecks listChecks firstFailing faultFrom listFault lastBroken rowBroken
+    rowsBroken isFault broken firstRefusal tooSoon releaseTests tickTests unit units workers less worked
+    ends since finishOf finished emptyBench unless started release served moved taken tick idling early
+    afterBy plain limit most firstOf least carryBy passesBy boundsBy
 each-part-needed =
     late _ carries-in 4 4 (1 ∷ 1 ∷ 3 ∷ 4 ∷ []) [] refl refl (omega arith) (omega arith) (omega arith)
     & late _ carries-in 4 4 (1 ∷ 1 ∷ 2 ∷ 1 ∷ []) [] refl refl (omega arith) (omega arith) (omega arith)

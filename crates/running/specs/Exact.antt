@@ -58,11 +58,13 @@ calls =
 
 -- The promise speaks of this bench: it was opened, and its rows have the bounds 1, 3 and 12.
 pub is-opened : opened 1 board ≡ some start
-unfolding rowsOf rowChecks rowsChecks listChecks firstFailing faultFrom listFault emptyBench openedAfter opened
+unfolding rowsOf rowChecks rowsChecks listChecks firstFailing faultFrom listFault emptyBench openedAfter
+    opened
 is-opened = refl
 
 pub has-bounds : boundsOf 1 board ≡ 1 ∷ 3 ∷ 12 ∷ []
-unfolding rowsOf rowChecks rowsChecks listChecks firstFailing faultFrom listFault plain carry limit interference most passes firstOf least window boundsBelow verdict judgedAfter judged
+unfolding rowsOf rowChecks rowsChecks listChecks firstFailing faultFrom listFault plain carry limit
+    interference most passes firstOf least window boundsBelow verdict judgedAfter judged
 has-bounds = refl
 
 -- the third row ends its poll 12 ticks after its release
@@ -71,5 +73,7 @@ third-ends = record { place = 3; response = record { 0 = 12 } }
 
 -- In the next tick the third row ends its poll, exactly at its bound. The bound 11 does not hold for it.
 pub met-exactly : (tick (after start calls) .finishes ≡ third-ends ∷ []) × (Holds start calls 3 11 → ⊥)
-unfolding rowsOf rowChecks rowsChecks listChecks firstFailing faultFrom listFault lastBroken rowBroken rowsBroken isFault broken firstRefusal tooSoon releaseTests tickTests unit units less worked ends since finishOf finished emptyBench unless started release served moved taken tick after
+unfolding rowsOf rowChecks rowsChecks listChecks firstFailing faultFrom listFault lastBroken rowBroken
+    rowsBroken isFault broken firstRefusal tooSoon releaseTests tickTests unit units less worked ends since
+    finishOf finished emptyBench unless started release served moved taken tick after
 met-exactly = (refl, λ holds. let late : 11 < 11 = holds .over-in-time (omega arith) in omega arith)

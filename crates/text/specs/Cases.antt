@@ -23,7 +23,13 @@ use Rattle.text.specs.Text.{boundLines, judgedText, sheetText, outcomeTe
 
 -- the text of a sheet, with all that it rests on opened so that it computes
 unfoldable text : List ℕ → List ℕ
-unfolding textOf outcomeText sheetText judgedText boundLines firstLine rowLine rowLines shownLine notShownLine refusedLine decimal digitsIn readOf readFrom newReading noSheet boardSheet recordOn recordLength kindOf isEnd wholeRecord rowFields field numberAfter recordChecks misplaced boardChecks recordRowChecks endChecks verdictOf afterRecord withEntry inserted entriesOf entryOf ticksOf used whole refused tableOf tableWith withRow emptyTable rowsOf rowChecks rowsChecks listChecks firstFailing faultFrom listFault plain carry limit interference most passes firstOf least window boundsBelow verdict judgedAfter judged faultPaper
+unfolding textOf outcomeText sheetText judgedText boundLines firstLine rowLine rowLines shownLine
+    notShownLine refusedLine decimal digitsIn readOf readFrom newReading noSheet boardSheet recordOn
+    recordLength kindOf isEnd wholeRecord rowFields field numberAfter recordChecks misplaced boardChecks
+    recordRowChecks endChecks verdictOf afterRecord withEntry inserted entriesOf entryOf ticksOf used whole
+    refused tableOf tableWith withRow emptyTable rowsOf rowChecks rowsChecks listChecks firstFailing
+    faultFrom listFault plain carry limit interference most passes firstOf least window boundsBelow verdict
+    judgedAfter judged faultPaper
 text sheet = textOf sheet
 
 abbrev board : List ℕ

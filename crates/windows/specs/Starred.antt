@@ -59,6 +59,8 @@ _&_ : {A B : Type 0} → A → B → A × B
 a & b = (a, b)
 
 pub starred : Each (λ claim. claim) claims
-unfolding plain carry limit interference most passes firstOf least window boundsBelow verdict judgedAfter judged judgedInto written paperOf rowChecks rowsChecks listChecks roomChecks firstFailing faultFrom listFault lentFault
+unfolding plain carry limit interference most passes firstOf least window boundsBelow verdict judgedAfter
+    judged judgedInto written paperOf rowChecks rowsChecks listChecks roomChecks firstFailing faultFrom
+    listFault lentFault
 starred =
     refl & refl & refl & refl & refl & refl & refl & refl & refl & refl & refl & refl & refl & refl & refl & refl & refl & refl & refl & refl & refl & tt
