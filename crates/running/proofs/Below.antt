@@ -23,7 +23,7 @@ pub rows-below : RowsBelow
 rows-below k cores table table′ start start′ same =
     let sound = opened-sound cores table start (same .opened-first) in
     let sound′ = opened-sound cores table′ start′ (same .opened-second) in (
-      answer.rows-below cores k (rowsOf table) (rowsOf table′) sound sound′ (same .rows) .bounds,
+      answer.rows-below cores k (rowsOf table) (rowsOf table′) sound sound′ (same .rows),
       λ calls calls′ same-calls.
           let run =
           bench.rows-below k cores table table′ start start′ (same .opened-first) (same .opened-second)

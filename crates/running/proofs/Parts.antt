@@ -36,7 +36,7 @@ use Rattle.bench.specs.Step.{
   tick,
 }
 use Rattle.bench.specs.History.{Call, releases, ticks, doCall, after, steps}
-use Rattle.running.specs.Running.{boundsOf, boundAt, EndsInTime}
+use Rattle.running.specs.Running.{boundsOf, boundAt, EndsInTime, NotUnfinished}
 use Rattle.running.specs.Parts.{
   Parts,
   carryBy,
@@ -49,6 +49,7 @@ use Rattle.running.specs.Parts.{
   ours,
   idling,
   early,
+  SameAsDefined,
   HoldsForOurs,
   EachPartNeeded,
 }
@@ -110,8 +111,17 @@ pub holds-for-ours : HoldsForOurs
 holds-for-ours cores table start is calls call place first =
     rw (bounds-are cores table start is, after-ours start calls)
     (λ within.
-    last-step (EndsInTime place (boundAt (boundsOf cores table) place)) start calls call
-    (bounds-hold cores table start is (calls ++ call ∷ []) place first within .ends-in-time))
+    let now = bounds-hold cores table start is calls place first within in
+    let next = bounds-hold cores table start is (calls ++ call ∷ []) place first within in
+    record {
+      over-in-time = now .over-in-time;
+      ends-in-time =
+          last-step (EndsInTime place (boundAt (boundsOf cores table) place)) start calls call (next .ends-in-time);
+      not-unfinished = last-step (NotUnfinished place) start calls call (next .not-unfinished);
+    })
+
+pub same-as-defined : SameAsDefined
+same-as-defined = record { bounds = λ M rows. bounds-ours M [] rows; histories = after-ours }
 
 -- The board that shows each changed part wrong: two cores, and rows whose bounds are 1, 1, 3 and 4.
 abbrev board : Table
@@ -134,8 +144,9 @@ late : (p : Parts) (calls : List Call) (place response : ℕ) (bounds : List ℕ
     → p .board (afterBy p start calls) ticks .finishes ≡ poll place response ∷ others
     → 1 ≤ place → place ≤ length bounds → p .promised (boundAt bounds place) < response → InTime p → ⊥
 late p calls place response bounds others are ended first within more promise =
-    let kept = rw (are, ended) at (promise 2 board start is-opened calls ticks place first) in
-    let low : response ≤ p .promised (boundAt bounds place) = kept within .0 refl in
+    let kept = rw are at (promise 2 board start is-opened calls ticks place first) in
+    let ends = rw ended at (kept within .ends-in-time) in
+    let low : response ≤ p .promised (boundAt bounds place) = ends .0 refl in
     omega arith
 
 -- Row 3 carries in when row 4 is released at instant 2, and row 4 ends at 6, after its whole bound of 4 ticks.

@@ -6,10 +6,11 @@ use mathlib.Core.Option.{some}
 use lib.ListN.{length, take}
 use Rattle.quantities.specs.declared.Table.{Table}
 use Rattle.quantities.specs.Table.{rowsOf}
+use Rattle.windows.specs.Answer.{judged}
+use Rattle.windows.specs.Judgement.{SameDownTo}
 use Rattle.bench.specs.declared.Bench.{Bench}
 use Rattle.bench.specs.Step.{opened}
 use Rattle.bench.specs.History.{Call, after, callsTo, heard}
-use Rattle.running.specs.Running.{boundsOf}
 
 -- Two benches that were opened for as many cores, for tables that have the same rows down to place k.
 pub record SameRows (k cores : ℕ) (table table′ : Table) (start start′ : Bench) : Type 0 where
@@ -26,9 +27,10 @@ pub record SameRun (k : ℕ) (start start′ : Bench) (calls calls′ : List Cal
   pub states : take k (after start calls .states) ≡ take k (after start′ calls′ .states)
   pub answers : heard k start calls ≡ heard k start′ calls′
 
--- Down to place k the bounds are the same, and so are histories with the same ticks and releases there.
+-- Down to place k the answers are the same, bounds and the place named, and so are histories with the same ticks and
+-- releases there.
 abbrev pub RowsBelow : Type 0
 RowsBelow =
     (k cores : ℕ) (table table′ : Table) (start start′ : Bench) → SameRows k cores table table′ start start′
-    → (take k (boundsOf cores table) ≡ take k (boundsOf cores table′))
+    → SameDownTo k (judged cores (rowsOf table)) (judged cores (rowsOf table′))
     × ((calls calls′ : List Call) → callsTo k calls ≡ callsTo k calls′ → SameRun k start start′ calls calls′)

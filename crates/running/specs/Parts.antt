@@ -14,14 +14,15 @@ use Rattle.quantities.specs.Table.{rowsOf}
 use Rattle.windows.specs.Window.{plain, limit}
 use Rattle.windows.specs.Choice.{Bounded, bounded, Load, most}
 use Rattle.windows.specs.Least.{least}
+use Rattle.windows.specs.Bound.{boundsBelow}
 use Rattle.bench.specs.declared.Bench.{Bench}
 use Rattle.bench.specs.declared.Outcome.the-variants.{Taken}
 use Rattle.bench.specs.Record.{rows}
 use Rattle.bench.specs.Refusal.{firstRefusal, releaseTests}
 use Rattle.bench.specs.Serving.{workers}
 use Rattle.bench.specs.Step.{Step, opened, unless, started, release, tick}
-use Rattle.bench.specs.History.{Call, releases, ticks, doCall}
-use Rattle.running.specs.Running.{boundAt, EndsInTime}
+use Rattle.bench.specs.History.{Call, releases, ticks, doCall, after}
+use Rattle.running.specs.Running.{boundAt, OverInTime, EndsInTime, NotUnfinished}
 
 -- What the promise rests on: the ticks of a window x in which one row above can hold up a row with this own cost, how many
 -- rows carry in on M cores, where the carry-in of a row with cost c is cut, what is promised of a bound, and the board.
@@ -69,24 +70,34 @@ unfoldable pub afterBy : Parts → Bench → List Call → Bench
 afterBy p b [] = b
 afterBy p b (call ∷ calls) = afterBy p (p .board b call .bench) calls
 
--- The promise for these parts: whatever calls are made on a bench that was opened, each poll that ends in the next call, of
--- a row that has a bound, took at most what is promised for it.
+-- A bound is kept on a bench and in the next call on it, as `Holds` says it of a whole history.
+pub record Keeps (b : Bench) (step : Step) (place bound : ℕ) : Type 0 where
+  pub over-in-time : OverInTime place bound b
+  pub ends-in-time : EndsInTime place bound step
+  pub not-unfinished : NotUnfinished place step
+
+-- Demand 3 for these parts: whatever calls are made on a bench that was opened, what is promised of the bound of a row that
+-- has one is kept there and in the next call.
 abbrev pub InTime : Parts → Type 0
 InTime p =
     (cores : ℕ) (table : Table) (start : Bench) → opened cores table ≡ some start → (calls : List Call) (call : Call)
     (place : ℕ) → 1 ≤ place → place ≤ length (boundsBy p cores [] (rowsOf table))
-    → EndsInTime place (p .promised (boundAt (boundsBy p cores [] (rowsOf table)) place))
-    (p .board (afterBy p start calls) call)
+    → Keeps (afterBy p start calls) (p .board (afterBy p start calls) call) place
+    (p .promised (boundAt (boundsBy p cores [] (rowsOf table)) place))
 
 -- the bench one instant later, and nothing else changed
 abbrev later : Bench → Bench
 later b =
     record { cores = b .cores; table = b .table; now = record { 0 = suc (b .now .0) }; states = b .states }
 
--- a board whose tick idles when fewer rows have work than it has cores
-unfoldable pub idling : Bench → Call → Step
-idling b (releases place demand) = release b place demand
-idling b ticks =
+-- a board with another tick
+abbrev pub withTick : (Bench → Step) → Bench → Call → Step
+withTick run b (releases place demand) = release b place demand
+withTick run b ticks = run b
+
+-- a tick that idles when fewer rows have work than the board has cores
+unfoldable pub idling : Bench → Step
+idling b =
     elim (ltb (workers (take (length (rows b)) (b .states))) (b .cores)) [
       | true ↦ record { outcome = Taken; finishes = []; bench = later b }
       | false ↦ tick b
@@ -105,7 +116,12 @@ early b ticks = tick b
 abbrev pub ours : Parts
 ours = parts (λ own x. x - own + 1) (λ M. M - 1) (λ c. c - 1) (λ bound. bound) doCall
 
--- The promise holds for these,
+-- With our parts, bounds and histories are those of crates/windows and crates/bench: nothing is said of a copy.
+pub record SameAsDefined : Type 0 where
+  pub bounds : (M : ℕ) (rows : List Row) → boundsBy ours M [] rows ≡ boundsBelow M [] rows
+  pub histories : (b : Bench) (calls : List Call) → afterBy ours b calls ≡ after b calls
+
+-- The promise holds for our parts,
 abbrev pub HoldsForOurs : Type 0
 HoldsForOurs = InTime ours
 
@@ -117,7 +133,7 @@ changed =
     ∷ parts (λ own x. x - own) (λ M. M - 1) (λ c. c - 1) (λ bound. bound) doCall
     ∷ parts (λ own x. x - own + 1) (λ M. M - 2) (λ c. c - 1) (λ bound. bound) doCall
     ∷ parts (λ own x. x - own + 1) (λ M. M - 1) (λ c. c - 2) (λ bound. bound) doCall
-    ∷ parts (λ own x. x - own + 1) (λ M. M - 1) (λ c. c - 1) (λ bound. bound) idling
+    ∷ parts (λ own x. x - own + 1) (λ M. M - 1) (λ c. c - 1) (λ bound. bound) (withTick idling)
     ∷ parts (λ own x. x - own + 1) (λ M. M - 1) (λ c. c - 1) (λ bound. bound) early
     ∷ []
 
