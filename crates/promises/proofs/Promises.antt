@@ -6,18 +6,18 @@ use mathlib.Core.Bool.{Bool, true, false}
 use mathlib.Core.List.{List, [], _∷_, _++_}
 use mathlib.Core.Option.{Option, none, some}
 use lib.Dec.{eqb}
-use lib.ListN.{length, drop}
+use lib.ListN.{length, drop, length-drop, length-append}
 use lib.Seq.{take-append-seam, drop-append-seam}
 use borrow.Author.Tests.{ne-eqb}
 use Rattle.quantities.specs.Checks.{listChecks, roomChecks, lentFault, listFault}
 use Rattle.quantities.specs.Table.{rowsOf}
-use Rattle.quantities.proofs.Sound.{sound-list-means}
-use Rattle.quantities.proofs.Paper.{turned-away}
-use Rattle.windows.specs.Answer.{written, paperOf}
-use Rattle.windows.proofs.Into.{into-refused, into-room}
+use Rattle.quantities.proofs.Sound.{sound-list-means, sound-passes}
+use Rattle.quantities.proofs.Paper.{turned-away, fault-first}
+use Rattle.windows.specs.Answer.{judged, judgedInto, written, paperOf}
+use Rattle.windows.proofs.Into.{into-refused, into-room, refused-fault}
 use Rattle.windows.proofs.Judgement.{judged-faulty, judged-means, one-judgement}
 use Rattle.sheet.proofs.Promises.{whole-exactly, faulty-sheet-turned-away, refused-by-first-fault, no-table-refused}
-use Rattle.sheet.proofs.Promises.{each-row-once, priorities-rise, table-in-order}
+use Rattle.sheet.proofs.Promises.{board-answered, each-row-once, priorities-rise, table-in-order}
 use Rattle.bench.specs.declared.Bench.{Bench}
 use Rattle.bench.specs.declared.Refusal.{Refusal}
 use Rattle.bench.specs.declared.Outcome.the-variants.{Taken}
@@ -33,7 +33,9 @@ use Rattle.running.proofs.Below.{rows-below}
 use Rattle.running.proofs.Replayed.{replay-in-time}
 use Rattle.promises.specs.Promises.{
   FaultyListTurnedAway,
+  RefusedListHasFault,
   LentListLeftAlone,
+  RefusedLentHasFault,
   RoomEnough,
   BoundsWritten,
   OpenedForSound,
@@ -51,6 +53,19 @@ faulty-list-turned-away cores rows one first =
     let answer = judged-faulty cores rows (turned .fault) (turned .is-fault) in
     (rw answer (turned .on-paper), rw answer refl)
 
+refused-list-has-fault : RefusedListHasFault
+unfolding judged listFault
+refused-list-has-fault cores rows = (
+  λ fault e. fault-first (listChecks cores rows) fault (refused-fault (listFault cores rows) cores rows fault e),
+  sound-passes cores rows,
+)
+
+refused-lent-has-fault : RefusedLentHasFault
+unfolding judgedInto lentFault
+refused-lent-has-fault cores entries rows fault e =
+    fault-first (listChecks cores rows ++ roomChecks entries rows) fault
+    (refused-fault (lentFault cores entries rows) cores rows fault e)
+
 lent-list-left-alone : LentListLeftAlone
 unfolding lentFault written paperOf
 lent-list-left-alone cores rows entries one first =
@@ -64,7 +79,12 @@ room-enough cores entries rows sound enough =
 
 bounds-written : BoundsWritten
 unfolding written
-bounds-written j entries = (take-append-seam (j .bounds) (drop (length (j .bounds)) entries), drop-append-seam (j .bounds) (drop (length (j .bounds)) entries))
+bounds-written j entries =
+    let n = length (j .bounds) in (
+      take-append-seam (j .bounds) (drop n entries),
+      drop-append-seam (j .bounds) (drop n entries),
+      λ enough. length-append (j .bounds) (drop n entries) ∙ omega (arith, length-drop n entries),
+    )
 
 opened-for-sound : OpenedForSound
 unfolding opened openedAfter
@@ -103,7 +123,9 @@ demand-1 =
       refused-sheets = refused-by-first-fault;
       no-table = no-table-refused;
       lists = faulty-list-turned-away;
+      refused-lists = refused-list-has-fault;
       lent-lists = lent-list-left-alone;
+      refused-lent = refused-lent-has-fault;
       room = room-enough;
       entries = bounds-written;
       openings = opened-for-sound;
@@ -117,6 +139,7 @@ demand-2 =
       rising = priorities-rise;
       in-order = table-in-order;
       each-once = each-row-once;
+      board = board-answered;
       least = judged-means;
       only = one-judgement;
     }

@@ -1,21 +1,28 @@
 -- The three demands. Each type is proved under its name in proofs/Promises.antt, of the definitions that the contracts cite.
 use Prim.Native.Nat.{ℕ, _≤_, _<_}
 use mathlib.Core.Path.{_≡_}
+use mathlib.Core.Logic.{_↔_}
+use mathlib.Core.Bool.{false}
 use mathlib.Core.List.{List, [], _++_}
 use mathlib.Core.Option.{some}
 use lib.ListN.{length, take, drop}
+use Rattle.laws.specs.Each.{Each}
 use Rattle.quantities.specs.declared.Row.{Row}
 use Rattle.quantities.specs.declared.Table.{Table}
+use Rattle.quantities.specs.declared.Fault.{Fault}
 use Rattle.quantities.specs.Table.{rowsOf}
-use Rattle.quantities.specs.Paper.{paper}
+use Rattle.quantities.specs.Paper.{paper, faultPaper, FirstOf}
 use Rattle.quantities.specs.Checks.{Check, listChecks, roomChecks, FirstFailing, SoundList}
+use Rattle.windows.specs.declared.Answer.the-variants.{Refused}
 use Rattle.windows.specs.Answer.{Judged, judged, judgedInto, written, paperOf}
 use Rattle.windows.specs.Judgement.{Judgement}
 use Rattle.sheet.specs.Promises.{WholeExactly, FaultySheetTurnedAway, RefusedByFirstFault, NoTableRefused}
-use Rattle.sheet.specs.Promises.{EachRowOnce, PrioritiesRise, TableInOrder}
+use Rattle.sheet.specs.Promises.{BoardAnswered, EachRowOnce, PrioritiesRise, TableInOrder}
+use Rattle.sheet.specs.Reader.{readOf}
+use Rattle.sheet.specs.declared.Outcome.{Outcome}
 use Rattle.bench.specs.declared.Bench.{Bench}
 use Rattle.bench.specs.declared.Refusal.{Refusal}
-use Rattle.bench.specs.declared.Outcome.the-variants.{Taken, Refused}
+use Rattle.bench.specs.declared.Outcome.the-variants.{Taken, Refused as CallRefused}
 use Rattle.bench.specs.Record.{lastInstant}
 use Rattle.bench.specs.Refusal.{firstRefusal, releaseTests, tickTests, outcomeOf}
 use Rattle.bench.specs.Step.{emptyBench, opened, release, tick}
@@ -32,6 +39,13 @@ FaultyListTurnedAway =
     → (paperOf (judged cores rows .answer) ≡ paper (one .number) (one .place))
     × (judged cores rows .bounds ≡ [])
 
+-- And a row list that is refused has that fault: a list is sound exactly where each check passes.
+abbrev pub RefusedListHasFault : Type 0
+RefusedListHasFault =
+    (cores : ℕ) (rows : List Row)
+    → ((fault : Fault) → judged cores rows .answer ≡ Refused fault → FirstOf (listChecks cores rows) (faultPaper fault))
+    × (SoundList cores rows ↔ Each (λ one. one .fails ≡ false) (listChecks cores rows))
+
 -- The same where the bounds go into a list, with 7 after the rows' checks; and that list stays as it was.
 abbrev pub LentListLeftAlone : Type 0
 LentListLeftAlone =
@@ -40,18 +54,24 @@ LentListLeftAlone =
     → (paperOf (judgedInto cores (length entries) rows .answer) ≡ paper (one .number) (one .place))
     × (written (judgedInto cores (length entries) rows) entries ≡ entries)
 
+abbrev pub RefusedLentHasFault : Type 0
+RefusedLentHasFault =
+    (cores entries : ℕ) (rows : List Row) (fault : Fault) → judgedInto cores entries rows .answer ≡ Refused fault
+    → FirstOf (listChecks cores rows ++ roomChecks entries rows) (faultPaper fault)
+
 -- A sound list with an entry for each row is answered as it is without such a list: 7 is not given to it.
 abbrev pub RoomEnough : Type 0
 RoomEnough =
     (cores entries : ℕ) (rows : List Row) → SoundList cores rows → length rows ≤ entries
     → judgedInto cores entries rows ≡ judged cores rows
 
--- Then the first entries hold the bounds, and every later entry is as it was.
+-- Then the first entries hold the bounds, every later entry is as it was, and none is lost.
 abbrev pub BoundsWritten : Type 0
 BoundsWritten =
     (j : Judged) (entries : List ℕ)
     → (take (length (j .bounds)) (written j entries) ≡ j .bounds)
     × (drop (length (j .bounds)) (written j entries) ≡ drop (length (j .bounds)) entries)
+    × (length (j .bounds) ≤ length entries → length (written j entries) ≡ length entries)
 
 -- A call on a bench is refused by the first of its tests that fails, and taken where none does.
 abbrev pub CallsTested : Type 0
@@ -62,8 +82,8 @@ CallsTested =
 -- A call that is refused changes nothing, and no poll ends in it.
 abbrev pub RefusedCallChangesNothing : Type 0
 RefusedCallChangesNothing =
-    (b : Bench) (call : Call) (why : Refusal) → doCall b call .outcome ≡ Refused why
-    → doCall b call ≡ record { outcome = Refused why; finishes = []; bench = b }
+    (b : Bench) (call : Call) (why : Refusal) → doCall b call .outcome ≡ CallRefused why
+    → doCall b call ≡ record { outcome = CallRefused why; finishes = []; bench = b }
 
 -- A bench is opened, empty, for each table that passes checks 1 to 6, and for no other.
 abbrev pub OpenedForSound : Type 0
@@ -72,30 +92,37 @@ OpenedForSound =
     → (SoundList cores (rowsOf table) → opened cores table ≡ some (emptyBench cores table))
     × ((b : Bench) → opened cores table ≡ some b → SoundList cores (rowsOf table))
 
--- Demand 1. Every sheet, row list and bench call is answered; a faulty one is turned away by number and place,
--- in the fixed order of checks, and every list or bench then holds exactly what the rules say.
+-- Demand 1. Every sheet, row list and bench call is answered; a faulty one is turned away by number and place, in the fixed
+-- order of checks, and every list or bench then holds exactly what the rules say.
 pub record Demand1 : Type 0 where
   pub sheets : WholeExactly
   pub faulty-sheets : FaultySheetTurnedAway
   pub refused-sheets : RefusedByFirstFault
   pub no-table : NoTableRefused
   pub lists : FaultyListTurnedAway
+  pub refused-lists : RefusedListHasFault
   pub lent-lists : LentListLeftAlone
+  pub refused-lent : RefusedLentHasFault
   pub room : RoomEnough
   pub entries : BoundsWritten
   pub openings : OpenedForSound
   pub calls : CallsTested
   pub refused-calls : RefusedCallChangesNothing
 
--- Demand 2. Rows stand in rising priority number, each row of the sheet once. The bound of a row is the least window from C
--- to D that passes for every permitted choice of carry-in rows; the first row with none is named, it and those below get no
--- bound. No other answer reads so.
-pub record Demand2 : Type 0 where
-  pub rising : PrioritiesRise
-  pub in-order : TableInOrder
-  pub each-once : EachRowOnce
-  pub least : (cores : ℕ) (rows : List Row) → SoundList cores rows → Judgement cores rows (judged cores rows)
+-- Demand 2, of a reader of sheets and a judge of row lists. Rows stand in rising priority number, each row of the sheet once.
+-- The bound of a row is the least window from C to D that passes for every permitted choice of carry-in rows; the first row
+-- with none is named, it and those below get no bound. No other answer reads so.
+pub record Demand2For (read : List ℕ → Outcome) (judge : (cores : ℕ) → List Row → Judged) : Type 0 where
+  pub rising : PrioritiesRise read
+  pub in-order : TableInOrder read
+  pub each-once : EachRowOnce read
+  pub board : BoardAnswered read
+  pub least : (cores : ℕ) (rows : List Row) → SoundList cores rows → Judgement cores rows (judge cores rows)
   pub only : (cores : ℕ) (rows : List Row) (j k : Judged) → Judgement cores rows j → Judgement cores rows k → j ≡ k
+
+-- It holds of ours; specs/Fakes.antt has some that it does not hold of.
+abbrev pub Demand2 : Type 0
+Demand2 = Demand2For readOf judged
 
 -- A board that was opened runs on: until its clock ends, every tick is taken.
 abbrev pub TicksTaken : Type 0

@@ -133,3 +133,12 @@ sound-list-means cores rows = (there, back)
     back : SoundList cores rows → listFault cores rows ≡ none
     back s =
         list-fault-rows cores rows (omega arith) (s .few-rows) (omega arith) (s .few-cores) ∙ sound-rows-means 1 rows .1 (s .sound-rows)
+
+-- and that is where each of its checks passes
+pub sound-passes : (cores : ℕ) (rows : List Row)
+    → SoundList cores rows ↔ Each (λ one. one .fails ≡ false) (listChecks cores rows)
+unfolding listFault faultFrom
+sound-passes cores rows = (
+  (λ sound. none-fails (listChecks cores rows) (fault-none (listChecks cores rows) (sound-list-means cores rows .1 sound))),
+  (λ passed. sound-list-means cores rows .0 (ap faultFrom (none-found (listChecks cores rows) passed))),
+)

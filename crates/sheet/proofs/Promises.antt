@@ -9,7 +9,7 @@ use Rattle.quantities.specs.Limits.{rowCapacity}
 use Rattle.quantities.specs.Table.{rowsOf}
 use Rattle.quantities.specs.declared.Micros.{Micros}
 use Rattle.sheet.specs.Entries.{entriesOf, tableOf, sheetOf, boardSheet, Rising}
-use Rattle.sheet.specs.Reader.{noSheet, refused, whole, readOf}
+use Rattle.sheet.specs.Reader.{noSheet, refused, whole, readOf, paperOf}
 use Rattle.sheet.specs.Whole.{entriesOn, coresOn, tickOn, MadeOf}
 use Rattle.sheet.specs.Promises.{WholeExactly, BoardAnswered, EachRowOnce, PrioritiesRise, TableInOrder, AnyOrder, NoTableRefused, FaultySheetTurnedAway, RefusedByFirstFault, AtMost550, First1024, OneOutcome}
 use Rattle.sheet.specs.declared.Entry.{Entry}
@@ -28,12 +28,12 @@ use Rattle.sheet.proofs.Prefix.{read-first-bytes}
 pub whole-exactly : WholeExactly
 whole-exactly sheet = (sound-made sheet, made-sound sheet)
 
-pub board-answered : BoardAnswered
+pub board-answered : BoardAnswered readOf
 unfolding whole sheetOf
 board-answered sheet m =
     (ap (λ (o : Outcome). o .sheet .cores) (answer-made sheet m), ap (λ (o : Outcome). o .sheet .tick) (answer-made sheet m))
 
-pub each-row-once : EachRowOnce
+pub each-row-once : EachRowOnce readOf
 each-row-once = rows-each-once
 
 -- A sheet's answer is that of a list of at most 32 rising entries, refused or not.
@@ -75,12 +75,12 @@ answered sheet = by-verdict (readOf sheet .verdict) refl
           rise = tt;
         }
 
-pub priorities-rise : PrioritiesRise
+pub priorities-rise : PrioritiesRise readOf
 priorities-rise sheet =
     let a = answered sheet in
     rw (a .is-sheet, entries-of-sheet (a .cores) (a .tick) (a .entries)) (a .rise)
 
-pub table-in-order : TableInOrder
+pub table-in-order : TableInOrder readOf
 table-in-order sheet =
     let a = answered sheet in
     rw (a .is-sheet, entries-of-sheet (a .cores) (a .tick) (a .entries)) (table-rows (a .cores) (a .tick) (a .entries) (a .few))
@@ -92,7 +92,10 @@ pub no-table-refused : NoTableRefused
 no-table-refused = refused-no-table
 
 pub faulty-sheet-turned-away : FaultySheetTurnedAway
-faulty-sheet-turned-away = first-fault-refused
+unfolding refused paperOf
+faulty-sheet-turned-away sheet one fault =
+    let answer = first-fault-refused sheet one fault in
+    (ap (λ (o : Outcome). paperOf (o .verdict)) answer, ap (λ (o : Outcome). o .sheet) answer)
 
 pub refused-by-first-fault : RefusedByFirstFault
 refused-by-first-fault = refused-first-fault

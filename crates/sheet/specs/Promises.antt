@@ -5,9 +5,10 @@ use mathlib.Core.List.{List, map}
 use lib.ListN.{length, take}
 use Rattle.laws.specs.Permuted.{Permuted}
 use Rattle.quantities.specs.Checks.{Check}
+use Rattle.quantities.specs.Paper.{paper}
 use Rattle.quantities.specs.Table.{rowsOf}
 use Rattle.sheet.specs.Entries.{entriesOf, tableOf, Rising}
-use Rattle.sheet.specs.Reader.{refused, readOf}
+use Rattle.sheet.specs.Reader.{noSheet, refused, readOf, paperOf}
 use Rattle.sheet.specs.Faults.{FirstFault, FaultAt}
 use Rattle.sheet.specs.Whole.{entriesOn, coresOn, tickOn, WholeSheet, bytesOf, MadeOf}
 use Rattle.sheet.specs.declared.Entry.{Entry}
@@ -21,29 +22,27 @@ WholeExactly =
     (sheet : List ℕ)
     → (readOf sheet .verdict ≡ Sound → MadeOf sheet) × (MadeOf sheet → readOf sheet .verdict ≡ Sound)
 
--- The answer has the board's cores and tick length.
-abbrev pub BoardAnswered : Type 0
-BoardAnswered =
+-- Four sentences about a reader of sheets; ours, `readOf`, keeps them. Its answer has the board's cores and tick length.
+abbrev pub BoardAnswered : (List ℕ → Outcome) → Type 0
+BoardAnswered read =
     (sheet : List ℕ) (made : MadeOf sheet)
-    → (readOf sheet .sheet .cores ≡ coresOn (made .board))
-    × (readOf sheet .sheet .tick ≡ tickOn (made .board))
+    → (read sheet .sheet .cores ≡ coresOn (made .board)) × (read sheet .sheet .tick ≡ tickOn (made .board))
 
 -- Its rows are exactly the sheet's rows, each once, with their labels and their times in ticks.
-abbrev pub EachRowOnce : Type 0
-EachRowOnce =
+abbrev pub EachRowOnce : (List ℕ → Outcome) → Type 0
+EachRowOnce read =
     (sheet : List ℕ) (made : MadeOf sheet)
-    → Permuted (entriesOn (tickOn (made .board)) (made .rows)) (entriesOf (readOf sheet .sheet))
+    → Permuted (entriesOn (tickOn (made .board)) (made .rows)) (entriesOf (read sheet .sheet))
 
 -- Their priorities rise strictly.
-abbrev pub PrioritiesRise : Type 0
-PrioritiesRise = (sheet : List ℕ) → Rising (entriesOf (readOf sheet .sheet))
+abbrev pub PrioritiesRise : (List ℕ → Outcome) → Type 0
+PrioritiesRise read = (sheet : List ℕ) → Rising (entriesOf (read sheet .sheet))
 
 -- The table has the rows in that order.
-abbrev pub TableInOrder : Type 0
-TableInOrder =
+abbrev pub TableInOrder : (List ℕ → Outcome) → Type 0
+TableInOrder read =
     (sheet : List ℕ)
-    → rowsOf (tableOf (readOf sheet .sheet))
-    ≡ map (λ (entry : Entry). entry .row) (entriesOf (readOf sheet .sheet))
+    → rowsOf (tableOf (read sheet .sheet)) ≡ map (λ (entry : Entry). entry .row) (entriesOf (read sheet .sheet))
 
 -- Permuting the row records of a sheet without fault leaves its answer the same.
 abbrev pub AnyOrder : Type 0
@@ -58,10 +57,11 @@ NoTableRefused =
     (sheet : List ℕ) (number place : ℕ)
     → readOf sheet .verdict ≡ Refused number place → readOf sheet ≡ refused number place
 
--- A sheet with a fault is turned away by its first one, with the number and the place of the failing check.
+-- A sheet with a fault is turned away by its first one, with the number and the place of the failing check, and no table.
 abbrev pub FaultySheetTurnedAway : Type 0
 FaultySheetTurnedAway =
-    (sheet : List ℕ) (one : Check) → FirstFault sheet one → readOf sheet ≡ refused (one .number) (one .place)
+    (sheet : List ℕ) (one : Check) → FirstFault sheet one
+    → (paperOf (readOf sheet .verdict) ≡ paper (one .number) (one .place)) × (readOf sheet .sheet ≡ noSheet)
 
 -- And a sheet that is refused has that fault.
 abbrev pub RefusedByFirstFault : Type 0

@@ -1,18 +1,22 @@
 -- Laws of the answer whose bounds go into a list with so many entries: which of checks 1 to 7 decides.
-use Prim.Native.Nat.{ℕ, _≤_, _<_}
+use Prim.Native.Nat.{ℕ, suc, _≤_, _<_}
 use native.Mathlib.Omega.{arith}
-use mathlib.Core.Path.{_≡_, refl}
+use mathlib.Core.Path.{_≡_, ap}
+use mathlib.Core.Bool.{Bool, true, false}
 use mathlib.Core.Logic.{⊎-elim}
 use mathlib.Core.List.{List, []}
-use mathlib.Core.Option.{none, some}
+use mathlib.Core.Option.{Option, none, some}
+use lib.Dec.{eqb}
 use lib.ListN.{length}
 use Rattle.quantities.specs.Checks.{listFault, lentFault, SoundList}
 use Rattle.quantities.specs.declared.Row.{Row}
 use Rattle.quantities.specs.declared.Fault.{Fault}
 use Rattle.quantities.specs.declared.Fault.the-variants.{WholeList}
 use Rattle.quantities.proofs.Checks.{lent-fault-list, lent-fault-short, lent-fault-room}
-use Rattle.windows.specs.declared.Answer.the-variants.{Refused}
-use Rattle.windows.specs.Answer.{judgedAfter, judged, judgedInto}
+use Rattle.windows.specs.declared.Answer.{Answer}
+use Rattle.windows.specs.declared.Answer.the-variants.{Shown, NotShown, Refused}
+use Rattle.windows.specs.Bound.{boundsBelow}
+use Rattle.windows.specs.Answer.{verdict, judgedAfter, judged, judgedInto}
 use Rattle.windows.specs.Judgement.{AllShown, FirstNotShown}
 use Rattle.windows.proofs.Judgement.{judged-means}
 
@@ -37,6 +41,21 @@ module _ (M entries : ℕ) (rows : List Row) where
   pub into-room : listFault M rows ≡ none → length rows ≤ entries → judgedInto M entries rows ≡ judged M rows
   unfolding judgedInto judged
   into-room e h = rw (lent-fault-room M entries rows e h, e)
+
+-- an answer that refuses with a fault comes from that fault
+pub refused-fault : (found : Option Fault) (M : ℕ) (rows : List Row) (fault : Fault)
+    → judgedAfter found M rows .answer ≡ Refused fault → found ≡ some fault
+unfolding judgedAfter verdict
+refused-fault (some other) M rows fault e = let same : other ≡ fault = cc in ap some same
+refused-fault none M rows fault e = absurd (searched (eqb (length (boundsBelow M [] rows)) (length rows)) e)
+  where
+    searched : (all : Bool)
+        → _≡_ {A = Answer}
+        (elim all [ true ↦ Shown | false ↦ NotShown (suc (length (boundsBelow M [] rows))) ])
+        (Refused fault)
+        → ⊥
+    searched true e = let z : _≡_ {A = ℕ} 0 1 = cc in omega arith
+    searched false e = let z : _≡_ {A = ℕ} 0 1 = cc in omega arith
 
 -- a sound list has at most a bound for each row
 pub few-bounds : (M : ℕ) (rows : List Row) → SoundList M rows → length (judged M rows .bounds) ≤ length rows
