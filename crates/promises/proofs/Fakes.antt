@@ -8,7 +8,6 @@ use Rattle.quantities.specs.declared.Row.{Row}
 use Rattle.quantities.specs.Row.{rowOf}
 use Rattle.quantities.specs.Checks.{rowChecks, rowsChecks, listChecks, firstFailing, faultFrom, listFault, SoundList}
 use Rattle.quantities.proofs.Sound.{sound-list-means}
-use Rattle.windows.specs.declared.Answer.{Answer}
 use Rattle.windows.specs.declared.Answer.the-variants.{Shown}
 use Rattle.windows.specs.Window.{plain, carry, limit, interference}
 use Rattle.windows.specs.Choice.{most, passes}
@@ -17,9 +16,9 @@ use Rattle.windows.specs.Bound.{window, boundsBelow}
 use Rattle.windows.specs.Answer.{Judged, verdict, judgedAfter, judged}
 use Rattle.windows.proofs.Judgement.{judged-means, one-judgement}
 use Rattle.records.specs.Bytes.{numberAfter, field}
-use Rattle.records.specs.Records.{recordLength, rowFields, OneRecord}
-use Rattle.sheet.specs.Entries.{ticksOf, entryOf, entriesOf, used, Rising}
-use Rattle.sheet.specs.Whole.{joined, entriesOn, tickOn, WholeSheet, bytesOf, MadeOf}
+use Rattle.records.specs.Records.{recordLength, rowFields}
+use Rattle.sheet.specs.Entries.{ticksOf, entryOf, used}
+use Rattle.sheet.specs.Whole.{entriesOn, bytesOf, MadeOf}
 use Rattle.promises.specs.Promises.{Demand2For}
 use Rattle.promises.specs.Fakes.{Judge, Reader, TurnsEverythingAway, AnswersTheCost, WritesNoBounds, KeepsSheetOrder, FakesCaught}
 

@@ -1,5 +1,5 @@
 -- Demand 3 for the paper's parts, and that it is false for each of the changed ones: one board shows all six.
-use Prim.Native.Nat.{ℕ, suc, _+_, _-_, _*_, _≤_, _<_}
+use Prim.Native.Nat.{ℕ, _+_, _-_, _≤_, _<_}
 use mathlib.Core.Path.{_≡_, refl, sym, ap, fun-ext, _∙_}
 use mathlib.Core.List.{List, [], _∷_, _++_}
 use mathlib.Core.Option.{Option, none, some}
@@ -12,7 +12,7 @@ use Rattle.quantities.specs.Row.{cost, deadline, rowOf, noRow}
 use Rattle.quantities.specs.Table.{rowsOf}
 use Rattle.quantities.specs.Checks.{rowChecks, rowsChecks, listChecks, firstFailing, faultFrom, listFault}
 use Rattle.windows.specs.Window.{plain, carry, limit, interference}
-use Rattle.windows.specs.Choice.{Bounded, bounded, Load, load, loads, most, passes}
+use Rattle.windows.specs.Choice.{Bounded, bounded, load, loads, most, passes}
 use Rattle.windows.specs.Least.{firstOf, least}
 use Rattle.windows.specs.Bound.{window, boundsBelow}
 use Rattle.windows.specs.Answer.{Judged, verdict}

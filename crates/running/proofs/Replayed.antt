@@ -1,18 +1,15 @@
 -- What a replay writes is in time: its answers are those of a history, and the bounds hold in every history.
-use Prim.Native.Nat.{ℕ, _+_, _-_, _≤_}
+use Prim.Native.Nat.{ℕ, _+_, _-_}
 use native.Mathlib.Omega.{arith}
 use native.Mathlib.Decide.{decLt}
-use mathlib.Core.Path.{_≡_, refl, ap, _∙_}
+use mathlib.Core.Path.{_≡_, refl, ap}
 use mathlib.Core.Bool.{Bool}
 use mathlib.Core.List.{List, [], _∷_, _++_, map}
-use mathlib.Core.Option.{some}
 use borrow.Author.Tests.{lt-ltb, le-ltb}
 use lib.ListN.{length}
 use lib.Seq.{sets}
-use Rattle.quantities.specs.declared.Table.{Table}
 use Rattle.bench.specs.declared.Bench.{Bench}
 use Rattle.bench.specs.declared.Request.{Request}
-use Rattle.bench.specs.Step.{opened}
 use Rattle.bench.specs.History.{callOf, doCall, steps}
 use Rattle.bench.proofs.Kept.{opened-empty}
 use Rattle.replay.specs.Format.{answerBytes, joined}

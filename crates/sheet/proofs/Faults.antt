@@ -5,7 +5,7 @@ use mathlib.Core.Path.{_≡_, refl, sym, ap, _∙_}
 use mathlib.Core.Bool.{Bool, true, false}
 use mathlib.Core.List.{List}
 use mathlib.Core.Option.{Option, none, some}
-use lib.ListN.{length, drop}
+use lib.ListN.{length}
 use Rattle.laws.specs.Each.{Each}
 use Rattle.quantities.specs.Checks.{Check, firstFailing, FirstFailing}
 use Rattle.quantities.proofs.Sound.{none-fails, none-found, first-failing, first-found}
@@ -21,7 +21,7 @@ use Rattle.sheet.proofs.Checks.{sound-not-refused}
 use Rattle.sheet.proofs.Reader.{Reads, reads-new, turn-refused, turn-whole, turn-within, turn-on}
 
 -- The verdict of checks, by the first that fails.
-verdict-none : (checks : List Check) → Each (λ one. one .fails ≡ false) checks → verdictOf checks ≡ Sound
+pub verdict-none : (checks : List Check) → Each (λ one. one .fails ≡ false) checks → verdictOf checks ≡ Sound
 unfolding verdictOf
 verdict-none checks passed = rw (none-found checks passed, verdictOf)
 

@@ -3,6 +3,7 @@ pub mod Entries
 pub mod Checks
 pub mod Reader
 pub mod Faults
+pub mod Readings
 pub mod Order
 pub mod Sheets
 pub mod Accepted

@@ -66,7 +66,7 @@ fresh-none [] = tt
 fresh-none (new ∷ news) = (refl, fresh-none news)
 
 module _ (cores : ℕ) (tick : Micros) where
-  after-row : (entries : List Entry) (fields : RowFields) → length entries < rowCapacity
+  pub after-row : (entries : List Entry) (fields : RowFields) → length entries < rowCapacity
       → afterRecord (rowsAt cores tick entries) (Row fields) ≡ rowsAt cores tick (inserted (entryOf tick fields) entries)
   unfolding afterRecord withEntry sheetOf
   after-row entries fields h = rw (sheet-with cores tick entries (entryOf tick fields) h)

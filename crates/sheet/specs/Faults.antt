@@ -1,12 +1,16 @@
 -- The first fault of a sheet, said literally: the first check that fails, of the first record that fails one.
 use Prim.Native.Nat.{ℕ, _+_}
 use mathlib.Core.Path.{_≡_}
-use mathlib.Core.Bool.{false}
-use mathlib.Core.List.{List}
-use lib.ListN.{length, drop}
+use mathlib.Core.Logic.{_⊎_}
+use mathlib.Core.Bool.{true, false}
+use mathlib.Core.List.{List, _++_}
+use lib.ListN.{length, take, drop}
 use Rattle.laws.specs.Each.{Each}
+use Rattle.laws.specs.Permuted.{Permuted}
 use Rattle.quantities.specs.Checks.{Check, FirstFailing}
-use Rattle.records.specs.Records.{recordOn, sizeOf, isEnd}
+use Rattle.records.specs.Records.{boardKind, rowKind, recordOn, sizeOf, isEnd, OneRecord}
+use Rattle.sheet.specs.Entries.{entriesOf}
+use Rattle.sheet.specs.Whole.{joined, entriesOn, tickOn}
 use Rattle.records.specs.declared.Record.{Record}
 use Rattle.sheet.specs.Checks.{recordChecks}
 use Rattle.sheet.specs.Reader.{newReading, afterRecord}
@@ -27,6 +31,23 @@ pub data ReadTo (sheet : List ℕ) : Reading → ℕ → Type 0 where
       → Each (λ one. one .fails ≡ false) (checksAt sheet reading at)
       → isEnd (recordAt sheet at) ≡ false
       → ReadTo sheet (afterRecord reading (recordAt sheet at)) (at + sizeOf (recordAt sheet at))
+
+-- The rows that a reading knows are those of the sheet up to a place: a board record, then row records, each entered once.
+pub record RowsRead (sheet : List ℕ) (reading : Reading) (at : ℕ) : Type 0 where
+  pub board : List ℕ
+  pub rows : List (List ℕ)
+  pub stand : take at sheet ≡ board ++ joined rows
+  pub board-first : OneRecord boardKind board
+  pub then-rows : Each (OneRecord rowKind) rows
+  pub begun : reading .begun ≡ true
+  pub counted : reading .sheet .count ≡ length rows
+  pub entered : Permuted (entriesOn (tickOn board) rows) (entriesOf (reading .sheet))
+
+-- What a reading stands for: nothing was read, or a board record and rows were.
+abbrev pub ReadToMeans : Type 0
+ReadToMeans =
+    (sheet : List ℕ) (reading : Reading) (at : ℕ) → ReadTo sheet reading at
+    → ((at ≡ 0) × (reading ≡ newReading)) ⊎ RowsRead sheet reading at
 
 -- One check is the first of a sheet that fails: the records before are read, and it is the first of its own.
 pub record FirstFault (sheet : List ℕ) (one : Check) : Type 0 where
