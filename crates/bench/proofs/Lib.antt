@@ -16,3 +16,5 @@ pub mod Below
 pub mod Responses
 pub mod Fits
 pub mod TickRule
+pub mod Rules
+pub mod Fakes

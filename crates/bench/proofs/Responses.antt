@@ -20,6 +20,7 @@ use Rattle.bench.specs.declared.Finish.{Finish}
 use Rattle.bench.specs.Record.{idle, work, rows, stateAt}
 use Rattle.bench.specs.Serving.{units, ends, since, finishOf, finished}
 use Rattle.bench.specs.Step.{served, taken}
+use Rattle.bench.specs.TickRule.{Rising}
 use Rattle.bench.proofs.Units.{unit-le-one}
 use Rattle.bench.proofs.Serving.{length-units}
 use Rattle.bench.proofs.Balance.{served-le-work}
@@ -153,11 +154,7 @@ last-unit-ends b place low got one =
     let within = served-within b (place - 1) (omega arith) in
     rw here at (last-listed (suc (b .now .0)) 1 (served b) (b .states) (place - 1) within (omega arith) (omega arith))
 
--- Polls in rising place, from a place on.
-abbrev pub Rising : ℕ → List Finish → Type 0
-Rising place [] = Unit {0}
-Rising place (poll ∷ polls) = (place ≤ poll .place) × Rising (suc (poll .place)) polls
-
+-- The polls are listed in rising place.
 rising-from-lower : (place : ℕ) (polls : List Finish) → Rising (suc place) polls → Rising place polls
 rising-from-lower place [] r = tt
 rising-from-lower place (poll ∷ polls) (l, r) = (omega arith, r)

@@ -11,7 +11,7 @@ use Rattle.bench.specs.Ended.{finishesOf}
 use Rattle.bench.specs.declared.Refusal.{Refusal}
 use Rattle.bench.specs.declared.Outcome.the-variants.{Taken, Refused}
 use Rattle.bench.specs.Refusal.{firstRefusal, releaseTests, tickTests}
-use Rattle.bench.specs.Step.{Step, unless, started, release, taken, tick, releasedOf, tickedOf}
+use Rattle.bench.specs.Step.{Step, unless, started, release, moved, taken, tick, releasedOf, tickedOf}
 use Rattle.bench.specs.History.{Call, releases, ticks, doCall}
 
 abbrev pub refusedStep : Refusal → Bench → Step
@@ -54,6 +54,22 @@ refused-same b ticks why = go (firstRefusal (tickTests b)) refl
     go (some other) q e =
         let same : other ≡ why = cc (tick-refused b other q) in
         rw same at (tick-refused b other q)
+
+-- No call changes the board.
+pub same-board : (b : Bench) (call : Call) → (doCall b call .bench .cores ≡ b .cores) × (doCall b call .bench .table ≡ b .table)
+unfolding taken moved started
+same-board b (releases place demand) = go (firstRefusal (releaseTests b place demand)) refl
+  where
+    go : (found : Option Refusal) → firstRefusal (releaseTests b place demand) ≡ found
+        → (release b place demand .bench .cores ≡ b .cores) × (release b place demand .bench .table ≡ b .table)
+    go none q = rw (release-taken b place demand q) (refl, refl)
+    go (some why) q = rw (release-refused b place demand why q) (refl, refl)
+same-board b ticks = go (firstRefusal (tickTests b)) refl
+  where
+    go : (found : Option Refusal) → firstRefusal (tickTests b) ≡ found
+        → (tick b .bench .cores ≡ b .cores) × (tick b .bench .table ≡ b .table)
+    go none q = rw (tick-taken b q) (refl, refl)
+    go (some why) q = rw (tick-refused b why q) (refl, refl)
 
 -- A release ends no poll, so that its answer as one of a call lists none.
 pub release-no-polls : (b : Bench) (place demand : ℕ) → release b place demand .finishes ≡ []

@@ -1,12 +1,12 @@
 -- The tick rule: the highest min(M, how many) rows with work get one unit each, and no other does.
-use Prim.Native.Nat.{ℕ, zero, suc, _+_, _-_, _≤_, _<_, min}
+use Prim.Native.Nat.{ℕ, zero, suc, _-_, _≤_, _<_, min}
 use native.Mathlib.Omega.{arith}
-use mathlib.Core.Path.{_≡_, refl, sym, ap, _∙_}
+use mathlib.Core.Path.{_≡_, refl, sym, ap}
 use mathlib.Core.List.{List, [], _∷_}
 use lib.ListN.{length, getD, take}
 use Rattle.bench.specs.declared.RowState.{RowState}
 use Rattle.bench.specs.Record.{idle, work}
-use Rattle.bench.specs.Serving.{unit, units, workers, less, worked}
+use Rattle.bench.specs.Serving.{unit, units, total, workers, less, worked}
 use Rattle.bench.proofs.Rows.{less-none}
 
 -- What is to know of a row's unit u when m cores are free and l is its work.
@@ -33,11 +33,6 @@ unfolding unit units workers
 unit-low free i [] h = refl
 unit-low free zero (s ∷ states) h = omega arith
 unit-low free (suc i) (s ∷ states) h = unit-low (free - unit free (work s)) i states (omega arith)
-
--- the sum of units
-abbrev pub total : List ℕ → ℕ
-total [] = 0
-total (u ∷ us) = u + total us
 
 -- as many units are given as there are rows with work, up to the cores
 pub units-total : (free : ℕ) (states : List RowState) → total (units free states) ≡ min free (workers states)

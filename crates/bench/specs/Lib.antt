@@ -1,8 +1,11 @@
--- The bench: what it holds, when number 29 is due, how rows are served, its calls and their histories.
+-- The bench: what it holds, when number 29 is due, how rows are served, its calls, histories and rules.
 pub mod Record
 pub mod Refusal
 pub mod Serving
 pub mod Ended
 pub mod Step
 pub mod History
+pub mod TickRule
+pub mod Rules
+pub mod Fakes
 pub mod Starred

@@ -24,6 +24,11 @@ unfoldable pub units : (free : ℕ) → List RowState → List ℕ
 units free [] = []
 units free (state ∷ states) = unit free (work state) ∷ units (free - unit free (work state)) states
 
+-- the sum of units
+abbrev pub total : List ℕ → ℕ
+total [] = 0
+total (u ∷ us) = u + total us
+
 -- a row's state when it has got so many units
 unfoldable pub less : ℕ → RowState → RowState
 less u state = record { last = state .last; demand = state .demand; left = record { 0 = work state - u } }

@@ -9,8 +9,8 @@ use lib.ListN.{length}
 use Rattle.windows.specs.Choice.{Bounded, InRange, carriers}
 use Rattle.bench.specs.declared.RowState.{RowState}
 use Rattle.bench.specs.Record.{work}
-use Rattle.bench.specs.Serving.{unit, less}
-use Rattle.bench.proofs.Units.{total as sum, unit-facts}
+use Rattle.bench.specs.Serving.{unit, less, total as sum}
+use Rattle.bench.proofs.Units.{unit-facts}
 use Rattle.running.proofs.State.{came, spare, servedUp}
 use Rattle.running.proofs.Invariant.{Keeps, Phase, quiet, carried, Above, no-rows, more}
 use Rattle.running.proofs.Invariant.{Facts, no-facts, fact}

@@ -11,7 +11,7 @@ use Rattle.quantities.specs.Row.{cost}
 use Rattle.windows.specs.Window.{limit, interference}
 use Rattle.windows.specs.Choice.{Bounded, InRange, loads, carriers, total}
 use Rattle.bench.specs.declared.RowState.{RowState}
-use Rattle.bench.proofs.Units.{total as sum}
+use Rattle.bench.specs.Serving.{total as sum}
 use Rattle.running.proofs.Invariant.{Above, no-rows, more, Shown}
 use Rattle.running.proofs.Phase.{work-le}
 use Rattle.running.proofs.Above.{flags-each}

@@ -9,8 +9,8 @@ use Rattle.quantities.specs.Row.{cost}
 use Rattle.windows.specs.Choice.{Bounded, InRange}
 use Rattle.bench.specs.declared.RowState.{RowState}
 use Rattle.bench.specs.Record.{work}
-use Rattle.bench.specs.Serving.{unit, units, less, worked}
-use Rattle.bench.proofs.Units.{total as sum, unit-facts}
+use Rattle.bench.specs.Serving.{unit, units, less, worked, total as sum}
+use Rattle.bench.proofs.Units.{unit-facts}
 use Rattle.running.proofs.State.{came, spare, servedBelow, servedUp}
 use Rattle.running.proofs.Invariant.{Keeps, Facts, fact, Mine, resting, working}
 use Rattle.running.proofs.Invariant.{Window, Shown, Inv, done, next}

@@ -1,0 +1,79 @@
+-- The tick rule is false for each fake bench: one board at instant 1 shows both.
+use Prim.Native.Nat.{ℕ}
+use native.Mathlib.Omega.{arith}
+use mathlib.Core.Logic.{_⊎_, inl, inr}
+use mathlib.Core.Path.{_≡_, refl, ap}
+use mathlib.Core.List.{[], _∷_}
+use lib.ListN.{replicate}
+use Rattle.quantities.specs.Row.{rowOf, noRow}
+use Rattle.quantities.specs.Table.{rowsOf}
+use Rattle.quantities.specs.Checks.{rowChecks, rowsChecks, listChecks, firstFailing, faultFrom, listFault}
+use Rattle.quantities.specs.declared.Table.{Table}
+use Rattle.bench.specs.declared.Bench.{Bench}
+use Rattle.bench.specs.declared.Finish.{Finish}
+use Rattle.bench.specs.Record.{idle, work, stateAt, lastBroken, rowBroken, rowsBroken, isFault, broken}
+use Rattle.bench.specs.Refusal.{firstRefusal, tickTests, refusalPaper}
+use Rattle.bench.specs.Serving.{unit, units, workers, less, worked, ends, since, finishOf, finished}
+use Rattle.bench.specs.Step.{fresh, unless, served, moved, taken, tick}
+use Rattle.bench.specs.History.{ticks}
+use Rattle.bench.specs.TickRule.{Gets, PollEnds}
+use Rattle.bench.specs.Rules.{callTests, checkOf, callChecks, Permitted, TicksByRule}
+use Rattle.bench.specs.Fakes.{idled, once, invented, inventing, FakesCaught}
+
+-- one core, and one row that was released with one unit of work at instant 1, the present one
+abbrev board : Table
+board = record { count = 1; rows = rowOf 1 4 4 ∷ replicate 31 noRow }
+
+abbrev b : Bench
+b = record { cores = 1; table = board; now = record { 0 = 1 }; states = fresh 1 1 ∷ replicate 31 idle }
+
+may : Permitted b ticks
+unfolding callChecks callTests checkOf tickTests refusalPaper broken rowsBroken rowBroken lastBroken isFault
+    rowsOf rowChecks rowsChecks listChecks firstFailing faultFrom listFault
+may = (refl, (refl, tt))
+
+gets : Gets b 1
+unfolding rowsOf workers
+gets = record { first = omega arith; last = omega arith; has-work = omega arith; among-highest = omega arith }
+
+-- the poll that ends in the tick: its response is one tick
+abbrev poll : (response : ℕ) → Finish
+poll response = record { place = 1; response = record { 0 = response } }
+
+ends-in : PollEnds b (poll 1)
+ends-in =
+    record {
+      gets = gets;
+      last-unit = refl;
+      release = record { 0 = 1 };
+      released = refl;
+      response = refl;
+    }
+
+-- The row gets nothing from the one,
+once-idles : work (stateAt (once b .bench) 1) ≡ 1
+unfolding once idled
+once-idles = refl
+
+once-caught : TicksByRule once → ⊥
+unfolding less
+once-caught rule =
+    let served = ap work (rule b refl may .one-unit 1 gets) in
+    omega (arith, served, once-idles)
+
+-- and the other says two ticks.
+two-said : inventing b .finishes ≡ poll 2 ∷ []
+unfolding inventing invented tick unless taken served moved firstRefusal tickTests broken rowsBroken
+    rowBroken lastBroken isFault rowsOf rowChecks rowsChecks listChecks firstFailing faultFrom listFault
+    unit units less worked ends since finishOf finished
+two-said = refl
+
+inventing-caught : TicksByRule inventing → ⊥
+inventing-caught rule = differ (rw two-said at (rule b refl may .listed (poll 1) ends-in))
+  where
+    differ : (poll 1 ≡ poll 2) ⊎ ⊥ → ⊥
+    differ (inl same) = let z : _≡_ {A = ℕ} 1 2 = ap (λ (f : Finish). f .response .0) same in omega arith
+    differ (inr none) = none
+
+pub fakes-caught : FakesCaught
+fakes-caught = (once-caught, inventing-caught)

@@ -1,0 +1,44 @@
+-- Fake benches of document 01, which the tick rule has to catch.
+use Prim.Native.Nat.{ℕ, zero, suc}
+use mathlib.Core.List.{[], map}
+use Rattle.bench.specs.declared.Bench.{Bench}
+use Rattle.bench.specs.declared.Finish.{Finish}
+use Rattle.bench.specs.declared.Outcome.the-variants.{Taken}
+use Rattle.bench.specs.Step.{Step, tick}
+use Rattle.bench.specs.Rules.{TicksByRule}
+
+-- the bench one instant later, with no row served
+unfoldable pub idled : Bench → Step
+idled b =
+    record {
+      outcome = Taken;
+      finishes = [];
+      bench = record {
+        cores = b .cores;
+        table = b .table;
+        now = record { 0 = suc (b .now .0) };
+        states = b .states;
+      };
+    }
+
+-- serves rightly in its first tick and idles later
+unfoldable pub once : Bench → Step
+once b = elim (b .now .0) [ zero ↦ tick b | suc n ↦ idled b ]
+
+-- a poll with the clock's reading in the place of its response
+unfoldable pub invented : (instant : ℕ) → Finish → Finish
+invented instant poll = record { place = poll .place; response = record { 0 = instant } }
+
+-- ticks rightly and invents response times
+unfoldable pub inventing : Bench → Step
+inventing b =
+    let step = tick b in
+    record {
+      outcome = step .outcome;
+      finishes = map (invented (step .bench .now .0)) (step .finishes);
+      bench = step .bench;
+    }
+
+-- The rule holds for neither.
+abbrev pub FakesCaught : Type 0
+FakesCaught = (TicksByRule once → ⊥) × (TicksByRule inventing → ⊥)
