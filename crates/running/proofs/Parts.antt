@@ -1,4 +1,4 @@
--- Demand 3 for the paper's parts, and that it is false for each of the changed ones: one board shows all six.
+-- Demand 3 for our parts, and that it is false for each of the changed ones: one board shows all of them.
 use Prim.Native.Nat.{ℕ, _+_, _-_, _≤_, _<_}
 use mathlib.Core.Path.{_≡_, refl, sym, ap, fun-ext, _∙_}
 use mathlib.Core.List.{List, [], _∷_, _++_}
@@ -22,6 +22,7 @@ use Rattle.bench.specs.declared.Finish.{Finish}
 use Rattle.bench.specs.Record.{lastBroken, rowBroken, rowsBroken, isFault, broken}
 use Rattle.bench.specs.Refusal.{firstRefusal, tooSoon, releaseTests, tickTests}
 use Rattle.bench.specs.Serving.{unit, units, workers, less, worked, ends, since, finishOf, finished}
+use Rattle.bench.specs.Fakes.{idled, once, invented, inventing}
 use Rattle.bench.specs.Step.{
   Step,
   emptyBench,
@@ -36,7 +37,7 @@ use Rattle.bench.specs.Step.{
   tick,
 }
 use Rattle.bench.specs.History.{Call, releases, ticks, doCall, after, steps}
-use Rattle.running.specs.Running.{boundsOf, boundAt, EndsInTime, NotUnfinished}
+use Rattle.running.specs.Running.{boundsOf, boundAt, OverInTime, EndsInTime, NotUnfinished}
 use Rattle.running.specs.Parts.{
   Parts,
   carryBy,
@@ -149,6 +150,14 @@ late p calls place response bounds others are ended first within more promise =
     let low : response ≤ p .promised (boundAt bounds place) = ends .0 refl in
     omega arith
 
+-- And so does work that is left when the bound is over.
+unfinished : (p : Parts) (calls : List Call) (place : ℕ) (bounds : List ℕ)
+    → boundsBy p 2 [] (rowsOf board) ≡ bounds → 1 ≤ place → place ≤ length bounds
+    → (OverInTime place (p .promised (boundAt bounds place)) (afterBy p start calls) → ⊥) → InTime p → ⊥
+unfinished p calls place bounds are first within not-over promise =
+    let kept = rw are at (promise 2 board start is-opened calls ticks place first) in
+    not-over (kept within .over-in-time)
+
 -- Row 3 carries in when row 4 is released at instant 2, and row 4 ends at 6, after its whole bound of 4 ticks.
 abbrev carries-in : List Call
 carries-in =
@@ -184,6 +193,14 @@ too-soon =
     ∷ ticks
     ∷ []
 
+-- Row 3 has a unit left after the first tick.
+abbrev left-alone : List Call
+left-alone = releases 3 2 ∷ ticks ∷ ticks ∷ ticks ∷ []
+
+-- Row 1 is released at instant 1 and ends at 2.
+abbrev later-release : List Call
+later-release = ticks ∷ releases 1 1 ∷ []
+
 infixr 4 _&_
 _&_ : {A B : Type 0} → A → B → A × B
 a & b = (a, b)
@@ -192,7 +209,8 @@ a & b = (a, b)
 pub each-part-needed : EachPartNeeded
 unfolding rowsOf rowChecks rowsChecks listChecks firstFailing faultFrom listFault lastBroken rowBroken
     rowsBroken isFault broken firstRefusal tooSoon releaseTests tickTests unit units workers less worked
-    ends since finishOf finished emptyBench unless started release served moved taken tick idling early
+    ends since finishOf finished emptyBench unless started release served moved taken tick idled once invented
+    inventing idling early
     afterBy plain limit most firstOf least carryBy passesBy boundsBy
 each-part-needed =
     late _ carries-in 4 4 (1 ∷ 1 ∷ 3 ∷ 4 ∷ []) [] refl refl (omega arith) (omega arith) (omega arith)
@@ -201,4 +219,7 @@ each-part-needed =
     & late _ carries-in 4 4 (1 ∷ 1 ∷ 3 ∷ 3 ∷ []) [] refl refl (omega arith) (omega arith) (omega arith)
     & late _ one-alone 1 2 (1 ∷ 1 ∷ 3 ∷ 4 ∷ []) (poll 4 1 ∷ []) refl refl (omega arith) (omega arith) (omega arith)
     & late _ too-soon 3 4 (1 ∷ 1 ∷ 3 ∷ 4 ∷ []) [] refl refl (omega arith) (omega arith) (omega arith)
+    & unfinished _ left-alone 3 (1 ∷ 1 ∷ 3 ∷ 4 ∷ []) refl (omega arith) (omega arith)
+    (λ over. let low : 3 < 3 = over (omega arith) in omega arith)
+    & late _ later-release 1 2 (1 ∷ 1 ∷ 3 ∷ 4 ∷ []) [] refl refl (omega arith) (omega arith) (omega arith)
     & tt

@@ -20,6 +20,7 @@ use Rattle.bench.specs.declared.Outcome.the-variants.{Taken}
 use Rattle.bench.specs.Record.{rows}
 use Rattle.bench.specs.Refusal.{firstRefusal, releaseTests}
 use Rattle.bench.specs.Serving.{workers}
+use Rattle.bench.specs.Fakes.{idled, once, inventing}
 use Rattle.bench.specs.Step.{Step, opened, unless, started, release, tick}
 use Rattle.bench.specs.History.{Call, releases, ticks, doCall, after}
 use Rattle.running.specs.Running.{boundAt, OverInTime, EndsInTime, NotUnfinished}
@@ -87,8 +88,7 @@ InTime p =
 
 -- the bench one instant later, and nothing else changed
 abbrev later : Bench → Bench
-later b =
-    record { cores = b .cores; table = b .table; now = record { 0 = suc (b .now .0) }; states = b .states }
+later b = idled b .bench
 
 -- a board with another tick
 abbrev pub withTick : (Bench → Step) → Bench → Call → Step
@@ -99,7 +99,7 @@ withTick run b ticks = run b
 unfoldable pub idling : Bench → Step
 idling b =
     elim (ltb (workers (take (length (rows b)) (b .states))) (b .cores)) [
-      | true ↦ record { outcome = Taken; finishes = []; bench = later b }
+      | true ↦ idled b
       | false ↦ tick b
     ]
 
@@ -125,8 +125,9 @@ pub record SameAsDefined : Type 0 where
 abbrev pub HoldsForOurs : Type 0
 HoldsForOurs = InTime ours
 
--- Six times the same with one part changed: the bound lowered by one; interference limited by x − C; one carry-in row too
--- few; carry-in cut at C − 2; a tick that idles when fewer than M rows have work; a gap counted one short.
+-- The same with one part changed: the bound lowered by one; interference limited by x − C; one carry-in row too few;
+-- carry-in cut at C − 2; a tick that idles when fewer than M rows have work; a gap counted one short; and the two fake
+-- benches of document 01, one that serves rightly in its first tick and idles later, and one that invents response times.
 abbrev pub changed : List Parts
 changed =
     parts (λ own x. x - own + 1) (λ M. M - 1) (λ c. c - 1) (λ bound. bound - 1) doCall
@@ -135,6 +136,8 @@ changed =
     ∷ parts (λ own x. x - own + 1) (λ M. M - 1) (λ c. c - 2) (λ bound. bound) doCall
     ∷ parts (λ own x. x - own + 1) (λ M. M - 1) (λ c. c - 1) (λ bound. bound) (withTick idling)
     ∷ parts (λ own x. x - own + 1) (λ M. M - 1) (λ c. c - 1) (λ bound. bound) early
+    ∷ parts (λ own x. x - own + 1) (λ M. M - 1) (λ c. c - 1) (λ bound. bound) (withTick once)
+    ∷ parts (λ own x. x - own + 1) (λ M. M - 1) (λ c. c - 1) (λ bound. bound) (withTick inventing)
     ∷ []
 
 -- and not by accident: each part is needed.
