@@ -3,13 +3,11 @@ use native.Mathlib.Omega.{arith}
 use mathlib.Core.Path.{_≡_, refl, _∙_}
 use mathlib.Core.Bool.{false}
 use mathlib.Core.List.{_++_}
-use mathlib.Core.Option.{Option, none, some}
 use lib.Dec.{eqb}
 use lib.ListN.{length, drop, length-drop, length-append}
 use lib.Seq.{take-append-seam, drop-append-seam}
 use borrow.Author.Tests.{ne-eqb}
 use Rattle.quantities.specs.Checks.{listChecks, roomChecks, lentFault, listFault}
-use Rattle.quantities.specs.Table.{rowsOf}
 use Rattle.quantities.proofs.Sound.{sound-list-means, sound-passes}
 use Rattle.quantities.proofs.Paper.{turned-away, fault-first}
 use Rattle.windows.specs.Answer.{judged, judgedInto, written, paperOf}
@@ -17,16 +15,12 @@ use Rattle.windows.proofs.Into.{into-refused, into-room, refused-fault}
 use Rattle.windows.proofs.Judgement.{judged-faulty, judged-means, one-judgement}
 use Rattle.sheet.proofs.Promises.{whole-exactly, faulty-sheet-turned-away, refused-by-first-fault, no-table-refused}
 use Rattle.sheet.proofs.Promises.{board-answered, each-row-once, priorities-rise, table-in-order}
-use Rattle.bench.specs.declared.Bench.{Bench}
-use Rattle.bench.specs.declared.Refusal.{Refusal}
-use Rattle.bench.specs.declared.Outcome.the-variants.{Taken}
 use Rattle.bench.specs.Record.{lastInstant}
-use Rattle.bench.specs.Refusal.{firstRefusal, releaseTests, tickTests, outcomeOf}
-use Rattle.bench.specs.Step.{Step, unless, opened, openedAfter, release, tick, taken}
-use Rattle.bench.specs.History.{after}
+use Rattle.bench.specs.History.{ticks, after}
 use Rattle.bench.proofs.Record.{whole-unbroken}
-use Rattle.bench.proofs.Kept.{opened-empty, kept-opened, kept-after}
-use Rattle.bench.proofs.Steps.{refused-same}
+use Rattle.bench.proofs.Kept.{kept-opened, kept-after}
+use Rattle.bench.proofs.Rules.{release-checks, tick-checks, call-turned-away, call-taken, refused-unchanged, faulty-table-not-opened, sound-table-opened}
+use Rattle.bench.proofs.Rules.{releases-by-rule, ticks-by-rule, books-balance}
 use Rattle.running.proofs.Running.{bounds-hold}
 use Rattle.running.proofs.Below.{rows-below}
 use Rattle.running.proofs.Replayed.{replay-in-time}
@@ -37,8 +31,6 @@ use Rattle.promises.specs.Promises.{
   RefusedLentHasFault,
   RoomEnough,
   BoundsWritten,
-  OpenedForSound,
-  CallsTested,
   TicksTaken,
   Demand1,
   Demand2,
@@ -85,34 +77,12 @@ bounds-written j entries =
       λ enough. length-append (j .bounds) (drop n entries) ∙ omega (arith, length-drop n entries),
     )
 
-opened-for-sound : OpenedForSound
-unfolding opened openedAfter
-opened-for-sound cores table = (
-  λ sound. rw (sound-list-means cores (rowsOf table) .1 sound),
-  λ b o. sound-list-means cores (rowsOf table) .0 (opened-empty cores table b o .0),
-)
-
--- the outcome of a call, by the first of its tests that fails
-tested : (found : Option Refusal) (step : Step) (b : Bench) → step .outcome ≡ Taken → unless found step b .outcome ≡ outcomeOf found
-unfolding unless outcomeOf
-tested none step b taken = taken
-tested (some why) step b taken = refl
-
-calls-tested : CallsTested
-unfolding release tick taken
-calls-tested b = (
-  λ place demand. tested (firstRefusal (releaseTests b place demand)) _ b refl,
-  tested (firstRefusal (tickTests b)) _ b refl,
-)
-
 ticks-taken : TicksTaken
-unfolding tickTests firstRefusal outcomeOf
 ticks-taken cores table start o calls early =
     let b = after start calls in
     let kept = kept-after calls start (kept-opened cores table start o) in
-    let whole = whole-unbroken b (kept .whole) in
     let on : eqb (b .now .0) lastInstant ≡ false = ne-eqb (b .now .0) lastInstant (λ e. omega arith) in
-    calls-tested b .1 ∙ simp (whole, on)
+    call-taken b ticks (rw (tick-checks b) (whole-unbroken b (kept .whole), (on, tt)))
 
 pub demand-1 : Demand1
 demand-1 =
@@ -127,9 +97,15 @@ demand-1 =
       refused-lent = refused-lent-has-fault;
       room = room-enough;
       entries = bounds-written;
-      openings = opened-for-sound;
-      calls = calls-tested;
-      refused-calls = refused-same;
+      faulty-openings = faulty-table-not-opened;
+      openings = sound-table-opened;
+      release-checks = release-checks;
+      tick-checks = tick-checks;
+      faulty-calls = call-turned-away;
+      calls = call-taken;
+      refused-calls = refused-unchanged;
+      releases = releases-by-rule;
+      ticks = ticks-by-rule;
     }
 
 pub demand-2 : Demand2
@@ -144,4 +120,11 @@ demand-2 =
     }
 
 pub demand-3 : Demand3
-demand-3 = record { holds = bounds-hold; runs = ticks-taken; below = rows-below; in-code = replay-in-time }
+demand-3 =
+    record {
+      holds = bounds-hold;
+      runs = ticks-taken;
+      books = books-balance;
+      below = rows-below;
+      in-code = replay-in-time;
+    }

@@ -10,7 +10,6 @@ use Rattle.laws.specs.Each.{Each}
 use Rattle.quantities.specs.declared.Row.{Row}
 use Rattle.quantities.specs.declared.Table.{Table}
 use Rattle.quantities.specs.declared.Fault.{Fault}
-use Rattle.quantities.specs.Table.{rowsOf}
 use Rattle.quantities.specs.Paper.{paper, faultPaper, FirstOf}
 use Rattle.quantities.specs.Checks.{Check, listChecks, roomChecks, FirstFailing, SoundList}
 use Rattle.windows.specs.declared.Answer.the-variants.{Refused}
@@ -21,12 +20,12 @@ use Rattle.sheet.specs.Promises.{BoardAnswered, EachRowOnce, PrioritiesRise, Ta
 use Rattle.sheet.specs.Reader.{readOf}
 use Rattle.sheet.specs.declared.Outcome.{Outcome}
 use Rattle.bench.specs.declared.Bench.{Bench}
-use Rattle.bench.specs.declared.Refusal.{Refusal}
-use Rattle.bench.specs.declared.Outcome.the-variants.{Taken, Refused as CallRefused}
+use Rattle.bench.specs.declared.Outcome.the-variants.{Taken}
 use Rattle.bench.specs.Record.{lastInstant}
-use Rattle.bench.specs.Refusal.{firstRefusal, releaseTests, tickTests, outcomeOf}
-use Rattle.bench.specs.Step.{emptyBench, opened, release, tick}
-use Rattle.bench.specs.History.{Call, doCall, after}
+use Rattle.bench.specs.Step.{opened, tick}
+use Rattle.bench.specs.History.{Call, after}
+use Rattle.bench.specs.Rules.{FaultyTableNotOpened, SoundTableOpened, ReleaseChecks, TickChecks, CallTurnedAway, CallTaken}
+use Rattle.bench.specs.Rules.{RefusedUnchanged, ReleasesByRule, TicksByRule, BooksBalance}
 use Rattle.running.specs.Running.{BoundsHold}
 use Rattle.running.specs.Below.{RowsBelow}
 use Rattle.running.specs.Replayed.{ReplayInTime}
@@ -73,25 +72,6 @@ BoundsWritten =
     × (drop (length (j .bounds)) (written j entries) ≡ drop (length (j .bounds)) entries)
     × (length (j .bounds) ≤ length entries → length (written j entries) ≡ length entries)
 
--- A call on a bench is refused by the first of its tests that fails, and taken where none does.
-abbrev pub CallsTested : Type 0
-CallsTested =
-    (b : Bench) → ((place demand : ℕ) → release b place demand .outcome ≡ outcomeOf (firstRefusal (releaseTests b place demand)))
-    × (tick b .outcome ≡ outcomeOf (firstRefusal (tickTests b)))
-
--- A call that is refused changes nothing, and no poll ends in it.
-abbrev pub RefusedCallChangesNothing : Type 0
-RefusedCallChangesNothing =
-    (b : Bench) (call : Call) (why : Refusal) → doCall b call .outcome ≡ CallRefused why
-    → doCall b call ≡ record { outcome = CallRefused why; finishes = []; bench = b }
-
--- A bench is opened, empty, for each table that passes checks 1 to 6, and for no other.
-abbrev pub OpenedForSound : Type 0
-OpenedForSound =
-    (cores : ℕ) (table : Table)
-    → (SoundList cores (rowsOf table) → opened cores table ≡ some (emptyBench cores table))
-    × ((b : Bench) → opened cores table ≡ some b → SoundList cores (rowsOf table))
-
 -- Demand 1. Every sheet, row list and bench call is answered; a faulty one is turned away by number and place, in the fixed
 -- order of checks, and every list or bench then holds exactly what the rules say.
 pub record Demand1 : Type 0 where
@@ -105,9 +85,15 @@ pub record Demand1 : Type 0 where
   pub refused-lent : RefusedLentHasFault
   pub room : RoomEnough
   pub entries : BoundsWritten
-  pub openings : OpenedForSound
-  pub calls : CallsTested
-  pub refused-calls : RefusedCallChangesNothing
+  pub faulty-openings : FaultyTableNotOpened
+  pub openings : SoundTableOpened
+  pub release-checks : ReleaseChecks
+  pub tick-checks : TickChecks
+  pub faulty-calls : CallTurnedAway
+  pub calls : CallTaken
+  pub refused-calls : RefusedUnchanged
+  pub releases : ReleasesByRule
+  pub ticks : TicksByRule tick
 
 -- Demand 2, of a reader of sheets and a judge of row lists. Rows stand in rising priority number, each row of the sheet once.
 -- The bound of a row is the least window from C to D that passes for every permitted choice of carry-in rows; the first row
@@ -135,5 +121,6 @@ TicksTaken =
 pub record Demand3 : Type 0 where
   pub holds : BoundsHold
   pub runs : TicksTaken
+  pub books : BooksBalance
   pub below : RowsBelow
   pub in-code : ReplayInTime
