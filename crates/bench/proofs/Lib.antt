@@ -16,5 +16,6 @@ pub mod Below
 pub mod Responses
 pub mod Fits
 pub mod TickRule
+pub mod OneStep
 pub mod Rules
 pub mod Fakes

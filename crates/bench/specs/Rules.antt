@@ -130,6 +130,15 @@ abbrev pub TicksByRule : (Bench → Step) → Type 0
 TicksByRule run =
     (b : Bench) → length (b .states) ≡ rowCapacity → Permitted b ticks → TickRule b (run b)
 
+-- Each rule leaves one step: any two that meet it are equal (proofs/OneStep.antt).
+abbrev pub OneRelease : Type 0
+OneRelease =
+    (b : Bench) (place demand : ℕ) (one other : Step)
+    → ReleaseRule b place demand one → ReleaseRule b place demand other → one ≡ other
+
+abbrev pub OneTick : Type 0
+OneTick = (b : Bench) (one other : Step) → TickRule b one → TickRule b other → one ≡ other
+
 -- The last poll of a row is over and the demand fits: the gap alone can stand against a release.
 pub record Ready (b : Bench) (place demand : ℕ) : Type 0 where
   pub whole : broken b ≡ false
