@@ -6,10 +6,10 @@ use mathlib.Core.List.{List, _++_}
 use lib.ListN.{length, take, drop}
 use lib.Seq.{length-take-le, take-append-seam, drop-append-seam}
 use borrow.Author.Tests.{lt-ltb, le-ltb}
-use Rattle.text.specs.Buffer.{overlaid, Puts}
+use Rattle.lines.specs.Buffer.{overlaid, Puts}
+use Rattle.lines.proofs.Buffer.{length-puts}
 use Rattle.text.specs.Text.{textOf}
 use Rattle.text.specs.Printed.{textRoom, written, countIn, Printed}
-use Rattle.text.proofs.Buffer.{length-puts}
 
 module _ (sheet buffer : List ℕ) where
   -- a buffer that is too short is left as it is

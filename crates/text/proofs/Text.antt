@@ -29,9 +29,9 @@ use Rattle.sheet.specs.declared.Sheet.{Sheet}
 use Rattle.sheet.specs.declared.Outcome.{Outcome}
 use Rattle.sheet.specs.declared.Verdict.{Verdict}
 use Rattle.sheet.specs.declared.Verdict.the-variants.{Sound, Refused as Unread}
-use Rattle.text.specs.Lines.{shownLine, notShownLine, refusedLine}
+use Rattle.lines.specs.Lines.{shownLine, notShownLine, refusedLine}
+use Rattle.lines.proofs.Lines.{lines-in-array}
 use Rattle.text.specs.Text.{linesUpTo, boundLines, labelAt, paperLine, judgedText, sheetText, outcomeText, textOf}
-use Rattle.text.proofs.Lines.{lines-in-array}
 
 module _ (M : ℕ) (rows : List Row) where
   -- rows whose answer is no fault passed the checks

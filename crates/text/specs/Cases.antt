@@ -16,9 +16,9 @@ use Rattle.sheet.specs.Entries.{ticksOf, entryOf, boardSheet, entriesOf, used, 
 use Rattle.sheet.specs.Checks.{misplaced, boardChecks, endChecks, recordChecks, verdictOf}
 use Rattle.sheet.specs.Checks.{rowChecks as recordRowChecks}
 use Rattle.sheet.specs.Reader.{noSheet, newReading, afterRecord, refused, whole, readFrom, readOf}
-use Rattle.text.specs.Words.{ascii}
-use Rattle.text.specs.Decimal.{digitsIn, decimal}
-use Rattle.text.specs.Lines.{firstLine, rowLine, rowLines, shownLine, notShownLine, refusedLine}
+use Rattle.lines.specs.Words.{ascii}
+use Rattle.lines.specs.Decimal.{digitsIn, decimal}
+use Rattle.lines.specs.Lines.{firstLine, rowLine, rowLines, shownLine, notShownLine, refusedLine}
 use Rattle.text.specs.Text.{boundLines, judgedText, sheetText, outcomeText, textOf}
 
 -- the text of a sheet, with all that it rests on opened so that it computes

@@ -6,8 +6,8 @@ use mathlib.Core.List.{List}
 use lib.Dec.{ltb}
 use lib.ListN.{length, take}
 use Rattle.quantities.specs.Limits.{rowCapacity}
-use Rattle.text.specs.Buffer.{overlaid}
-use Rattle.text.specs.Lines.{lineRoom}
+use Rattle.lines.specs.Buffer.{overlaid}
+use Rattle.lines.specs.Lines.{lineRoom}
 use Rattle.text.specs.Text.{textOf}
 
 -- room enough for every text: a first line, 32 row lines and a last line

@@ -12,7 +12,7 @@ use Rattle.sheet.specs.Reader.{readOf}
 use Rattle.sheet.specs.declared.Sheet.{Sheet}
 use Rattle.sheet.specs.declared.Outcome.{Outcome}
 use Rattle.sheet.specs.declared.Verdict.the-variants.{Sound, Refused as Unread}
-use Rattle.text.specs.Lines.{firstLine, rowLines, shownLine, notShownLine, refusedLine}
+use Rattle.lines.specs.Lines.{firstLine, rowLines, shownLine, notShownLine, refusedLine}
 
 -- the first line of a sheet with so many rows, and the lines of the first k of them
 abbrev pub linesUpTo : Sheet → ℕ → List ℕ → ℕ → List ℕ

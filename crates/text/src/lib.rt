@@ -1,10 +1,10 @@
 //! The text of a sheet's answer, as the program prints it: document 01, "One sheet through the program".
 use analysis::analyse;
-use line::put_first_line;
-use line::put_not_shown_line;
-use line::put_refused_line;
-use line::put_row_lines;
-use line::put_shown_line;
+use lines::put_first_line;
+use lines::put_not_shown_line;
+use lines::put_refused_line;
+use lines::put_row_lines;
+use lines::put_shown_line;
 use quantities::Fault;
 use quantities::Table;
 use quantities::Ticks;
@@ -17,13 +17,10 @@ ghost use Rattle.quantities.specs.Limits.{rowCapacity};
 ghost use Rattle.quantities.specs.Paper.{faultPaper};
 ghost use Rattle.windows.specs.declared.Answer.the-variants.{Refused};
 ghost use Rattle.analysis.specs.Analysis.{numbers};
-ghost use Rattle.text.specs.Buffer.{Puts};
-ghost use Rattle.text.specs.Lines.{lineRoom};
+ghost use Rattle.lines.specs.Buffer.{Puts};
+ghost use Rattle.lines.specs.Lines.{lineRoom};
 ghost use Rattle.text.specs.Text.{linesUpTo, paperLine, sheetText};
 ghost use Rattle.text.specs.Printed.{textRoom, Printed};
-
-mod line;
-mod put;
 
 // Room enough for every text: 34 lines, none longer than 84 bytes.
 pub const TEXT_ROOM: usize = 2856;

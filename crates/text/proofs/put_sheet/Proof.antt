@@ -3,7 +3,7 @@ use Prim.Native.Nat.{_+_, _-_}
 use native.Mathlib.Omega.{arith}
 use mathlib.Core.Path.{ap, sym, _∙_}
 use lib.ListN.{length, length-append}
-use Rattle.text.proofs.Buffer.{puts-then}
+use Rattle.lines.proofs.Buffer.{puts-then}
 use Rattle.text.proofs.Text.{Analysed, count-shown, text-shown, place-not-shown, text-not-shown, text-refused}
 use borrow.Author.Needs.{needs}
 use Rattle.text.proofs.put_sheet.Statement.{statement}
