@@ -3,13 +3,14 @@ use Prim.Native.Nat.{ℕ, suc, _≤_, _<_}
 use native.Mathlib.Omega.{arith}
 use mathlib.Core.Path.{_≡_, refl, ap, sym, _∙_}
 use mathlib.Core.Logic.{_↔_}
-use mathlib.Core.Bool.{Bool, true, false, _||_}
+use mathlib.Core.Bool.{Bool, true, false}
 use mathlib.Core.List.{List, [], _∷_, _++_}
 use mathlib.Core.Option.{Option, none, some}
 use lib.ListN.{length}
 use lib.Dec.{eqb, ltb}
 use borrow.Author.Tests.{ltb-false, eqb-false}
 use Rattle.laws.specs.Each.{Each}
+use Rattle.laws.proofs.Tests.{or-false}
 use Rattle.quantities.specs.Limits.{rowCapacity, coreLimit, largestGap}
 use Rattle.quantities.specs.Row.{cost, deadline, gap, SoundRow}
 use Rattle.quantities.specs.Checks.{Check, rowChecks, firstFailing, faultFrom, rowFault, rowsFault, listFault, listChecks, SoundList, FirstFailing}
@@ -103,11 +104,6 @@ sound-rows-means place (row ∷ rows) = go (rowFault place row) refl (sound-rows
       (λ e. let z : _≡_ {A = ℕ} 0 1 = cc (row-fault-none place row (e .0)) in absurd (omega arith)),
     )
 
--- neither test holds where not one of the two does
-neither : (a b : Bool) → (a || b) ≡ false → (a ≡ false) × (b ≡ false)
-neither true b e = let z : _≡_ {A = ℕ} 0 1 = cc in absurd (omega arith)
-neither false b e = (refl, e)
-
 -- A list has no fault exactly where it is sound.
 pub sound-list-means : (cores : ℕ) (rows : List Row) → (listFault cores rows ≡ none) ↔ SoundList cores rows
 unfolding listFault listChecks
@@ -116,8 +112,8 @@ sound-list-means cores rows = (there, back)
     there : listFault cores rows ≡ none → SoundList cores rows
     there e =
         let tests = none-fails (listChecks cores rows) (fault-none (listChecks cores rows) e) in
-        let counts = neither (eqb (length rows) 0) (ltb rowCapacity (length rows)) (tests .0) in
-        let board = neither (eqb cores 0) (ltb coreLimit cores) (tests .1 .0) in
+        let counts = or-false (eqb (length rows) 0) (ltb rowCapacity (length rows)) (tests .0) in
+        let board = or-false (eqb cores 0) (ltb coreLimit cores) (tests .1 .0) in
         let some-rows = eqb-false (length rows) 0 (counts .0) in
         let few-rows = ltb-false rowCapacity (length rows) (counts .1) in
         let some-cores = eqb-false cores 0 (board .0) in

@@ -1,5 +1,5 @@
 -- What `most` means: no choice adds up to more, one attains it, so the computed test says what every choice says.
-use Prim.Native.Nat.{ℕ, zero, suc, _+_, _-_, _*_, _/_, _≤_, _<_, max}
+use Prim.Native.Nat.{ℕ, zero, suc, _+_, _-_, _*_, _/_, _≤_, _<_}
 use mathlib.Core.Path.{_≡_, refl, ap, _∙_}
 use mathlib.Core.Logic.{_↔_, Iff·trans, Iff·symm}
 use mathlib.Core.Bool.{Bool, true, false}
@@ -106,12 +106,6 @@ pub most-zero : (ls : List Load) → most ls 0 ≡ total ls []
 unfolding most
 most-zero [] = refl
 most-zero (l ∷ ls) = ap (λ rest. l .without + rest) (most-zero ls)
-
--- one row more, with a budget left: it carries in, or it does not
-pub most-row : (l : Load) (ls : List Load) (m : ℕ)
-    → most (l ∷ ls) (suc m) ≡ max (l .without + most ls (suc m)) (l .carrying + most ls m)
-unfolding most
-most-row l ls m = refl
 
 -- a larger budget takes no less
 pub most-suc : (ls : List Load) (m : ℕ) → most ls m ≤ most ls (suc m)

@@ -1,7 +1,7 @@
 -- What `least` means: some x exactly when x is the least number that passes, none exactly when none passes.
 use Prim.Native.Nat.{ℕ, zero, suc, _+_, _-_, _≤_, _<_}
 use mathlib.Core.Path.{_≡_, refl, ap}
-use mathlib.Core.Logic.{_↔_, Iff·trans}
+use mathlib.Core.Logic.{_↔_}
 use mathlib.Core.Bool.{Bool, true, false}
 use mathlib.Core.Option.{Option, none, some}
 use native.Mathlib.Omega.{arith}
@@ -137,26 +137,3 @@ pub least-is : (test : ℕ → Bool) (from to : ℕ) (o : Option ℕ)
 least-is test from to o =
     let outcome = least-outcome test from to in
     (λ e. rw e at outcome, outcome-unique outcome)
-
-pub least-some : (test : ℕ → Bool) (from to x : ℕ)
-    → (least test from to ≡ some x) ↔ IsLeast (Passed test) from to x
-least-some test from to x = Iff·trans (least-is test from to (some x)) outcome-some
-
-pub least-none : (test : ℕ → Bool) (from to : ℕ)
-    → (least test from to ≡ none) ↔ NoneIn (Passed test) from to
-least-none test from to = Iff·trans (least-is test from to none) outcome-none
-
--- a search may begin later if nothing passes before
-pub least-later : (test : ℕ → Bool) (from mid to : ℕ) → from ≤ mid → NoneBefore (Passed test) from mid
-    → least test mid to ≡ least test from to
-least-later test from mid to far before =
-    outcome-unique (widen from far before (least-outcome test mid to)) (least-outcome test from to)
-
--- tests that agree from `from` to `to` have the same least number there
-pub least-agrees : (test other : ℕ → Bool) (from to : ℕ) → ((y : ℕ) → from ≤ y → y ≤ to → test y ≡ other y)
-    → least test from to ≡ least other from to
-least-agrees test other from to agree =
-    outcome-unique (outcome-agrees same (least-outcome test from to)) (least-outcome other from to)
-  where
-    same : (y : ℕ) → from ≤ y → y ≤ to → Passed test y ↔ Passed other y
-    same y low high = let e = agree y low high in (λ t. rw e at t, λ t. rw e t)

@@ -14,7 +14,8 @@ pub enum Answer {
     Refused(Fault),
 }
 
-// The most work of a row in a window without carry-in. It is at most the window, since C is at most T.
+// The most work of a row in a window without carry-in. It is at most the window, since C is at most T
+// (`plain-le-window`).
 pub fn plain_work(row: Row, window: Ticks) -> Ticks
     requires { ⌜ (0 < gap row) × (cost row ≤ gap row) ⌝ }
     ensures { λ r. ⌜ r ≡ record { 0 = plain (cost row) (gap row) (window .0) } ⌝ }
@@ -32,7 +33,8 @@ pub fn plain_work(row: Row, window: Ticks) -> Ticks
     Ticks(full)
 }
 
-// The most work of a row with this bound in a window with carry-in. It is at most the window, or one poll.
+// The most work of a row with this bound in a window with carry-in. It is at most the window, or one poll
+// (`carry-le-window`).
 pub fn carry_work(row: Row, bound: Ticks, window: Ticks) -> Ticks
     requires { ⌜ (0 < cost row) × (cost row ≤ gap row) × (bound .0 ≤ gap row) ⌝ }
     ensures { λ r. ⌜ r ≡ record { 0 = carry (cost row) (gap row) (bound .0) (window .0) } ⌝ }
