@@ -1,4 +1,4 @@
--- The laws that belong to no one crate: of numbers, of lists, of tests.
+-- The laws that belong to no one crate: of numbers, of lists, of tests, of permuted lists.
 pub mod Numbers
 pub mod Lists
 pub mod Tests

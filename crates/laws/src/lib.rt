@@ -1,1 +1,1 @@
-//! No code: the laws of numbers and lists that the crates above share stand in specs/ and proofs/.
+//! No code: the laws of numbers, lists and tests that the crates above share stand in specs/ and proofs/.

@@ -1,4 +1,4 @@
--- The rules of a row list: windows, choices, bounds, the answer, and the starred numbers.
+-- A row list's rules: windows, choices, the least window, bounds, jumps, the answer, the starred numbers.
 pub mod Window
 pub mod Choice
 pub mod Least
