@@ -1,13 +1,12 @@
 -- The walk down the table: what the bounds array holds when the rows above index i have their bounds.
-use Prim.Native.Nat.{ℕ, zero, suc, _-_, _≤_, _<_, min}
+use Prim.Native.Nat.{ℕ, zero, suc, _-_, _≤_, _<_}
 use native.Mathlib.Omega.{arith}
 use native.Mathlib.Nat.{le-refl}
 use native.Mathlib.Numerals.{add-one}
 use mathlib.Core.Path.{_≡_, refl, sym, ap, ap₂, subst⁻¹, _∙_}
 use mathlib.Core.List.{List, [], _∷_, _++_, map, map-map, map-id, append-nil}
 use mathlib.Core.Option.{Option, none, some}
-use borrow.Author.Tests.{eq-eqb, ne-eqb}
-use lib.ListN.{length, getD, take, drop, set, replicate, length-take, length-map, length-set, take-append-drop}
+use lib.ListN.{length, take, drop, set, replicate, length-take, length-map, length-set, take-append-drop}
 use lib.Seq.{drop-cons, take-suc-set, drop-set-lt, drop-drop, getD-set-same, getD-set-other, append-snoc}
 use Rattle.laws.specs.Each.{Each}
 use Rattle.laws.proofs.Lists.{map-take, map-set}
@@ -17,7 +16,7 @@ use Rattle.quantities.specs.Table.{rowsOf}
 use Rattle.quantities.specs.declared.Row.{Row}
 use Rattle.quantities.specs.declared.Table.{Table}
 use Rattle.quantities.specs.declared.Ticks.{Ticks}
-use Rattle.quantities.proofs.Rows.{length-rows, rows-from, rows-end, row-at, each-row}
+use Rattle.quantities.proofs.Rows.{length-rows, rows-end}
 use Rattle.windows.specs.Choice.{Bounded, bounded, InRange}
 use Rattle.windows.specs.Bound.{boundOf, boundsBelow}
 use Rattle.windows.specs.Answer.{verdict}

@@ -1,17 +1,17 @@
 //! The engine: the bounds of a table's rows from the top, and the answer.
 ghost use mathlib.Core.Path.{_≡_};
-ghost use Prim.Native.Nat.{ℕ, _+_, _-_, _*_, _/_, _≤_, _<_, min, max};
-ghost use Rattle.quantities.specs.Row.{cost, deadline, gap};
-ghost use Rattle.quantities.specs.Limits.{rowCapacity, coreLimit, largestGap};
+ghost use Prim.Native.Nat.{_+_, _-_, _*_, _/_, _≤_, _<_, min, max};
+ghost use Rattle.quantities.specs.Row.{cost, gap};
+ghost use Rattle.quantities.specs.Limits.{rowCapacity, largestGap};
 ghost use Rattle.quantities.specs.Table.{rowsOf};
-ghost use Rattle.windows.specs.Choice.{InRange, bounded, load, loads, most};
+ghost use Rattle.windows.specs.Choice.{bounded, load, most};
 ghost use Rattle.windows.specs.Jump.{room, rooms, stride};
 ghost use mathlib.Core.List.{[]};
 ghost use Rattle.quantities.specs.Checks.{SoundList};
 ghost use Rattle.windows.specs.Bound.{boundOf, boundsBelow};
 ghost use Rattle.windows.specs.Answer.{judged, verdict};
 ghost use Rattle.windows.specs.Judgement.{rowAt};
-ghost use Rattle.analysis.specs.Analysis.{ticks, numbers, analysisOf};
+ghost use Rattle.analysis.specs.Analysis.{analysisOf};
 ghost use Rattle.analysis.specs.Engine.{Ready, CanRaise, Raised, CanLoad, LoadIs, TakenIs, above, countWith, leastWith, foundOf};
 use quantities::Checked;
 use quantities::Row;

@@ -1,5 +1,5 @@
 -- Two lists with the same elements, each as often, in any order.
-use mathlib.Core.List.{List, [], _∷_}
+use mathlib.Core.List.{List, _∷_}
 
 pub data Permuted {A : Type 0} : List A → List A → Type 0 where
   as-is : {xs : List A} → Permuted xs xs

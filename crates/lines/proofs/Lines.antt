@@ -1,7 +1,7 @@
 -- Laws of the lines: the bounds may stand in an array.
 use Prim.Native.Nat.{ℕ, zero, suc, _-_}
 use mathlib.Core.Path.{_≡_, refl, ap, _∙_}
-use mathlib.Core.List.{List, [], _∷_, _++_, map, map-append, map-map, map-id}
+use mathlib.Core.List.{List, _∷_, map, map-append, map-map, map-id}
 use lib.ListN.{length, getD, replicate}
 use Rattle.quantities.specs.Limits.{rowCapacity}
 use Rattle.quantities.specs.declared.Ticks.{Ticks}

@@ -2,7 +2,7 @@
 use Prim.Native.Nat.{ℕ, suc, _<_}
 use native.Mathlib.Omega.{arith}
 use mathlib.Core.Path.{_≡_, subst}
-use mathlib.Core.List.{List, [], _∷_}
+use mathlib.Core.List.{[], _∷_}
 use lib.ListN.{length, getD, drop, length-take, length-append, length-replicate, drop-of-length-le}
 use lib.Seq.{drop-cons, getD-take}
 use Rattle.laws.specs.Each.{Each}

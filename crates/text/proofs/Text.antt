@@ -2,7 +2,7 @@
 use Prim.Native.Nat.{ℕ, suc, _-_, _≤_, _<_}
 use native.Mathlib.Omega.{arith}
 use mathlib.Core.Path.{_≡_, refl, sym, ap, _∙_}
-use mathlib.Core.Logic.{_⊎_, ⊎-elim}
+use mathlib.Core.Logic.{⊎-elim}
 use mathlib.Core.List.{List, _++_}
 use mathlib.Core.Option.{Option, none, some}
 use lib.ListN.{length, take, length-append}
@@ -20,7 +20,7 @@ use Rattle.windows.specs.Judgement.{AllShown, FirstNotShown}
 use Rattle.windows.specs.declared.Answer.{Answer}
 use Rattle.windows.specs.declared.Answer.the-variants.{Shown, NotShown, Refused}
 use Rattle.windows.proofs.Judgement.{judged-faulty, judged-means}
-use Rattle.analysis.specs.Analysis.{numbers, inArray, analysisOf}
+use Rattle.analysis.specs.Analysis.{numbers, analysisOf}
 use Rattle.analysis.specs.declared.Analysis.{Analysis}
 use Rattle.sheet.specs.Entries.{tableOf}
 use Rattle.sheet.specs.Reader.{readOf}

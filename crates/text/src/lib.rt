@@ -15,7 +15,6 @@ ghost use Prim.Native.Nat.{_+_, _*_, _≤_};
 ghost use lib.ListN.{length};
 ghost use Rattle.quantities.specs.Limits.{rowCapacity};
 ghost use Rattle.quantities.specs.Paper.{faultPaper};
-ghost use Rattle.windows.specs.declared.Answer.the-variants.{Refused};
 ghost use Rattle.analysis.specs.Analysis.{numbers};
 ghost use Rattle.lines.specs.Buffer.{Puts};
 ghost use Rattle.lines.specs.Lines.{lineRoom};

@@ -7,12 +7,12 @@ use mathlib.Core.List.{List, [], _∷_, Forall₂, Forall₂·nil, Forall₂·co
 use native.Mathlib.Omega.{arith}
 use native.Mathlib.Decide.{decLe}
 use native.Mathlib.Nat.{div-lt-iff-lt-mul}
-use lib.Dec.{T, ltb, ltb→lt, lt→ltb}
+use lib.Dec.{T, ltb→lt, lt→ltb}
 use lib.ListN.{length}
 use Rattle.laws.specs.Each.{Each}
 use Rattle.quantities.specs.Row.{cost, gap}
 use Rattle.windows.specs.Window.{plain, carry, limit}
-use Rattle.windows.specs.Choice.{Bounded, Load, load, loads, carriers, total, Permitted, Passes, most, passes}
+use Rattle.windows.specs.Choice.{Bounded, Load, load, loads, carriers, total, Passes, most, passes}
 use Rattle.windows.proofs.Window.{interference-le-limit}
 
 -- A choice that speaks of each row, with at most m carriers, and adds up to the most.

@@ -1,5 +1,5 @@
 -- Rows below make no difference to the answer: lists that agree down to a place are answered alike down to it.
-use Prim.Native.Nat.{ℕ, zero, suc, _≤_, _<_, min}
+use Prim.Native.Nat.{ℕ, zero, suc, _≤_}
 use native.Mathlib.Omega.{arith}
 use mathlib.Core.Path.{_≡_, refl, ap, sym, _∙_}
 use mathlib.Core.Logic.{_↔_, _≢_}
@@ -14,7 +14,7 @@ use Rattle.quantities.specs.declared.Row.{Row}
 use Rattle.windows.specs.Choice.{Bounded, bounded}
 use Rattle.windows.specs.declared.Answer.the-variants.{Shown, NotShown}
 use Rattle.windows.specs.Bound.{boundOf, boundsBelow}
-use Rattle.windows.specs.Answer.{Judged, verdict, judged}
+use Rattle.windows.specs.Answer.{verdict, judged}
 use Rattle.windows.specs.Judgement.{SameDownTo}
 use Rattle.windows.proofs.Judgement.{Walk, over, stop, on, walk, judged-sound}
 

@@ -5,7 +5,6 @@ use mathlib.Core.List.{List, [], _∷_}
 use Rattle.laws.specs.Each.{Each}
 use Rattle.quantities.specs.Row.{rowOf}
 use Rattle.quantities.specs.Checks.{rowChecks, rowsChecks, listChecks, roomChecks, firstFailing, faultFrom, listFault, lentFault}
-use Rattle.quantities.specs.declared.Row.{Row}
 use Rattle.quantities.specs.declared.Fault.the-variants.{WholeList, OneRow}
 use Rattle.windows.specs.declared.Answer.the-variants.{Shown, NotShown, Refused}
 use Rattle.windows.specs.Window.{plain, carry, limit, interference}

@@ -1,30 +1,26 @@
 -- taken_above keeps, for each number of carriers, the most that the rows passed take, and counts those with room. The
 -- last row passed is the nearest, so it stands first in the list of the rows above.
-use Prim.Native.Nat.{ℕ, zero, suc, _+_, _-_, _*_, _≤_, _<_}
+use Prim.Native.Nat.{ℕ, zero, suc, _+_, _-_, _≤_, _<_}
 use native.Mathlib.Omega.{arith}
 use native.Mathlib.Numerals.{add-one}
-use native.Mathlib.Nat.{le-trans, mul-le-mul}
-use mathlib.Core.Path.{_≡_, refl, sym, subst, ap, ap₂, _∙_}
-use mathlib.Core.List.{List, [], _∷_}
+use mathlib.Core.Path.{_≡_, refl, sym, subst, ap₂, _∙_}
+use mathlib.Core.List.{List, _∷_}
 use borrow.Author.Needs.{needs}
 use lib.ListN.{length, getD}
 use Rattle.laws.proofs.Lists.{getD-repeated}
-use Rattle.quantities.specs.Limits.{rowCapacity, largestGap}
-use Rattle.quantities.specs.Row.{cost, gap, noRow, SoundRow}
+use Rattle.quantities.specs.Limits.{largestGap}
+use Rattle.quantities.specs.Row.{noRow, SoundRow}
 use Rattle.quantities.specs.Table.{rowsOf}
 use Rattle.quantities.specs.declared.Table.{Table}
 use Rattle.quantities.specs.declared.Ticks.{Ticks}
 use Rattle.quantities.proofs.Rows.{each-row}
-use Rattle.windows.specs.Window.{plain, carry, limit}
 use Rattle.windows.specs.Choice.{Bounded, bounded, InRange, Load, load, loads, most}
-use Rattle.windows.specs.Jump.{room, rooms, roomy, leastRoom, stride}
+use Rattle.windows.specs.Jump.{room, rooms, roomy, leastRoom}
 use Rattle.windows.specs.Judgement.{rowAt}
-use Rattle.windows.proofs.Window.{interference-le-limit}
-use Rattle.windows.proofs.Choice.{most-le-limit}
 use Rattle.windows.proofs.Room.{stride-in, stride-out}
-use Rattle.analysis.specs.Analysis.{ticks, numbers}
+use Rattle.analysis.specs.Analysis.{numbers}
 use Rattle.analysis.specs.Engine.{above, raisedAt, countWith, leastWith, LoadIs, TakenIs}
-use Rattle.analysis.proofs.Above.{length-above, entry, entry-above, each-entry}
+use Rattle.analysis.proofs.Above.{entry, entry-above, each-entry}
 use Rattle.analysis.proofs.Small.{most-small, load-small}
 use Rattle.analysis.proofs.Tally.{count-le, count-row, least-row}
 use Rattle.analysis.proofs.taken_above.Statement.{statement}

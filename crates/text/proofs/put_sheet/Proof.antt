@@ -1,8 +1,6 @@
 -- put_sheet lays the text of a sheet, by the cases of its answer.
-use Prim.Native.Nat.{_+_, _-_}
 use native.Mathlib.Omega.{arith}
-use mathlib.Core.Path.{ap, sym, _∙_}
-use lib.ListN.{length, length-append}
+use lib.ListN.{length-append}
 use Rattle.lines.proofs.Buffer.{puts-then}
 use Rattle.text.proofs.Text.{Analysed, count-shown, text-shown, place-not-shown, text-not-shown, text-refused}
 use borrow.Author.Needs.{needs}
