@@ -2,14 +2,14 @@
 use Prim.Native.Nat.{ℕ}
 use mathlib.Core.Path.{_≡_, refl, sym, ap, _∙_}
 use mathlib.Core.List.{List, [], _∷_}
-use Rattle.bench.specs.History.{Call, releases, ticks, doCall, after}
+use Rattle.bench.specs.History.{Call, releases, ticks, after, steps}
 use Rattle.bench.specs.Step.{Step, release, tick}
 use Rattle.bench.specs.declared.Bench.{Bench}
 use Rattle.bench.specs.declared.Outcome.{Outcome}
 use Rattle.bench.specs.declared.Outcome.the-variants.{Refused}
 use Rattle.bench.specs.declared.Refusal.{Refusal}
 use Rattle.bench.proofs.Steps.{refused-same}
-use Rattle.lentbench.specs.Lent.{LentRelease, LentTick}
+use Rattle.lentbench.specs.Lent.{LentRelease, LentTick, LentAnswer, answersTo, LentRun, over, released, ticked, RunsHistory}
 use Rattle.lentbench.specs.declared.TickAnswer.{TickAnswer}
 
 -- One outcome: any two that meet the statement are equal.
@@ -34,19 +34,20 @@ refused-tick-keeps b left answer why refused meets =
     ∙ ap (λ (step : Step). step .bench)
     (refused-same b ticks why (sym (ap (λ (a : TickAnswer). a .outcome) (meets .answers)) ∙ refused))
 
--- The caller's loop: a bench lent to one call after another.
-pub data LentRun : Bench → List Call → Bench → Type 0 where
-  over : {b : Bench} → LentRun b [] b
-  released : {b c d : Bench} {place demand : ℕ} {outcome : Outcome} {calls : List Call}
-      → LentRelease (release b place demand) c outcome
-      → LentRun c calls d → LentRun b (releases place demand ∷ calls) d
-  ticked : {b c d : Bench} {answer : TickAnswer} {calls : List Call}
-      → LentTick (tick b) c answer
-      → LentRun c calls d → LentRun b (ticks ∷ calls) d
-
--- It is the run of a history, so that what is proved of histories holds of it.
-pub lent-run : {b d : Bench} {calls : List Call} → LentRun b calls d → d ≡ after b calls
-unfolding after
-lent-run over = refl
-lent-run (released {calls = calls} one rest) = lent-run rest ∙ ap (λ (c : Bench). after c calls) (one .leaves)
-lent-run (ticked {calls = calls} one rest) = lent-run rest ∙ ap (λ (c : Bench). after c calls) (one .leaves)
+-- The caller's loop is the run of its history, so that what is proved of histories holds of it.
+pub lent-run : {b d : Bench} {calls : List Call} {heard : List LentAnswer} → LentRun b calls d heard
+    → RunsHistory b calls d heard
+unfolding after steps answersTo
+lent-run over = record { ends = refl; hears = refl }
+lent-run (released {calls = calls} one rest) =
+    let later = lent-run rest in
+    record {
+      ends = later .ends ∙ ap (λ (c : Bench). after c calls) (one .leaves);
+      hears = rw (later .hears, one .leaves, one .answers) refl;
+    }
+lent-run (ticked {calls = calls} one rest) =
+    let later = lent-run rest in
+    record {
+      ends = later .ends ∙ ap (λ (c : Bench). after c calls) (one .leaves);
+      hears = rw (later .hears, one .leaves, one .answers) refl;
+    }
