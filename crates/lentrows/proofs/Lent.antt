@@ -1,27 +1,27 @@
--- What the statement of the analysis on a lent list says of the list afterwards: nothing written by 1 to 7, and which
--- entries are written by 8 and by success.
+-- What the statement of the analysis on a lent list says of the list afterwards: each sentence of specs/Lent.
 use Prim.Native.Nat.{ℕ, suc, _-_, _≤_}
 use native.Mathlib.Omega.{arith}
+use native.Mathlib.Decide.{decLe}
 use mathlib.Core.Path.{_≡_, refl, sym, ap, _∙_}
 use mathlib.Core.Bool.{Bool, true, false}
-use mathlib.Core.List.{List, [], _++_}
+use mathlib.Core.List.{List, []}
 use mathlib.Core.Option.{Option, none, some}
 use lib.Dec.{eqb}
-use lib.ListN.{length, take, drop}
+use lib.ListN.{length, drop, length-append, length-drop}
 use lib.Seq.{take-at, drop-at}
 use borrow.Author.Tests.{eqb-true}
-use Rattle.quantities.specs.Checks.{lentFault}
+use Rattle.quantities.specs.Checks.{listFault, lentFault}
 use Rattle.quantities.specs.declared.Row.{Row}
 use Rattle.quantities.specs.declared.Fault.{Fault}
-use Rattle.windows.specs.declared.Answer.{Answer}
+use Rattle.quantities.proofs.Sound.{sound-list-means}
 use Rattle.windows.specs.declared.Answer.the-variants.{Shown, NotShown, Refused}
 use Rattle.windows.specs.Answer.{Judged, verdict, judgedAfter, judgedInto, written}
 use Rattle.windows.specs.Bound.{boundsBelow}
-use Rattle.lentrows.specs.Lent.{LentAnalysis}
+use Rattle.windows.proofs.Into.{into-faulty, into-short, into-room, few-bounds}
+use Rattle.lentrows.specs.Lent.{LentAnalysis, Filled, judgedOver}
+use Rattle.lentrows.specs.Lent.{RefusedWritesNothing, NotShownLeaves, ShownFills, LengthKept, OneOutcome}
 
--- One outcome: any two that meet the statement are equal.
-pub one-outcome : (j : Judged) (before after after′ : List ℕ) (answer answer′ : Answer)
-    → LentAnalysis j before after answer → LentAnalysis j before after′ answer′ → (after ≡ after′) × (answer ≡ answer′)
+pub one-outcome : OneOutcome
 one-outcome j before after after′ answer answer′ a b = (a .leaves ∙ sym (b .leaves), a .answers ∙ sym (b .answers))
 
 -- how many bounds a verdict has, by its answer
@@ -49,12 +49,6 @@ verdict-not-refused count bounds fault = go (eqb (length bounds) count) refl
     go true q e = let z : _≡_ {A = ℕ} 0 1 = cc (rw (q, verdict) at e) in omega arith
     go false q e = let z : _≡_ {A = ℕ} 0 1 = cc (rw (q, verdict) at e) in omega arith
 
--- The first n entries hold these bounds, and every later one is as it was.
-pub record Filled (n : ℕ) (bounds before after : List ℕ) : Type 0 where
-  pub many : length bounds ≡ n
-  pub first : take n after ≡ bounds
-  pub later : drop n after ≡ drop n before
-
 filled : (n : ℕ) (j : Judged) (before after : List ℕ) → length (j .bounds) ≡ n → after ≡ written j before → Filled n (j .bounds) before after
 unfolding written
 filled n j before after many e =
@@ -64,41 +58,61 @@ filled n j before after many e =
       later = rw (e, many) (drop-at (j .bounds) (drop n before) n many);
     }
 
-module _ (M : ℕ) (rows : List Row) (before after : List ℕ) where
-  abbrev outcome : Judged
-  outcome = judgedInto M (length before) rows
+pub refused-writes-nothing : RefusedWritesNothing
+unfolding judgedInto judgedAfter written
+refused-writes-nothing M rows before after fault = go (lentFault M (length before) rows) refl
+  where
+    go : (found : Option Fault) → lentFault M (length before) rows ≡ found
+        → LentAnalysis (judgedOver M rows before) before after (Refused fault) → after ≡ before
+    go none q meets =
+        absurd
+        (verdict-not-refused (length rows) (boundsBelow M [] rows) fault
+        (sym (rw (q, judgedAfter) at (meets .answers))))
+    go (some f) q meets = rw (q, judgedAfter) at (meets .leaves)
 
-  -- Numbers 1 to 7 write nothing to the bounds list.
-  pub refused-writes-nothing : (fault : Fault) → LentAnalysis outcome before after (Refused fault) → after ≡ before
-  unfolding judgedInto judgedAfter written
-  refused-writes-nothing fault = go (lentFault M (length before) rows) refl
-    where
-      go : (found : Option Fault) → lentFault M (length before) rows ≡ found → LentAnalysis outcome before after (Refused fault) → after ≡ before
-      go none q meets = absurd (verdict-not-refused (length rows) (boundsBelow M [] rows) fault (sym (rw (q, judgedAfter) at (meets .answers))))
-      go (some f) q meets = rw (q, judgedAfter) at (meets .leaves)
+pub shown-fills : ShownFills
+unfolding judgedInto judgedAfter verdict
+shown-fills M rows before after = go (lentFault M (length before) rows) refl
+  where
+    go : (found : Option Fault) → lentFault M (length before) rows ≡ found
+        → LentAnalysis (judgedOver M rows before) before after Shown
+        → Filled (length rows) (judgedOver M rows before .bounds) before after
+    go none q meets =
+        let all = verdict-shown (length rows) (boundsBelow M [] rows) (sym (rw (q, judgedAfter) at (meets .answers))) in
+        filled (length rows) (judgedOver M rows before) before after (rw (q, judgedAfter) all) (meets .leaves)
+    go (some f) q meets = let z : _≡_ {A = ℕ} 0 1 = cc (rw (q, judgedAfter) at (meets .answers)) in absurd (omega arith)
 
-  -- Success fills one entry per row and touches no other.
-  pub shown-fills : LentAnalysis outcome before after Shown → Filled (length rows) (outcome .bounds) before after
-  unfolding judgedInto judgedAfter verdict
-  shown-fills = go (lentFault M (length before) rows) refl
-    where
-      go : (found : Option Fault) → lentFault M (length before) rows ≡ found → LentAnalysis outcome before after Shown
-          → Filled (length rows) (outcome .bounds) before after
-      go none q meets =
-          filled (length rows) outcome before after
-          (rw (q, judgedAfter) (verdict-shown (length rows) (boundsBelow M [] rows) (sym (rw (q, judgedAfter) at (meets .answers)))))
-          (meets .leaves)
-      go (some f) q meets = let z : _≡_ {A = ℕ} 0 1 = cc (rw (q, judgedAfter) at (meets .answers)) in absurd (omega arith)
+pub not-shown-leaves : NotShownLeaves
+unfolding judgedInto judgedAfter verdict
+not-shown-leaves M rows before after place = go (lentFault M (length before) rows) refl
+  where
+    go : (found : Option Fault) → lentFault M (length before) rows ≡ found
+        → LentAnalysis (judgedOver M rows before) before after (NotShown place)
+        → Filled (place - 1) (judgedOver M rows before .bounds) before after
+    go none q meets =
+        let one-less =
+        verdict-not-shown (length rows) place (boundsBelow M [] rows) (sym (rw (q, judgedAfter) at (meets .answers))) in
+        filled (place - 1) (judgedOver M rows before) before after (rw (q, judgedAfter) (omega (arith, one-less)))
+        (meets .leaves)
+    go (some f) q meets = let z : _≡_ {A = ℕ} 0 1 = cc (rw (q, judgedAfter) at (meets .answers)) in absurd (omega arith)
 
-  -- Number 8 leaves the bounds of the rows before the place in the first entries and every later entry untouched.
-  pub not-shown-leaves : (place : ℕ) → LentAnalysis outcome before after (NotShown place)
-      → Filled (place - 1) (outcome .bounds) before after
-  unfolding judgedInto judgedAfter verdict
-  not-shown-leaves place = go (lentFault M (length before) rows) refl
-    where
-      go : (found : Option Fault) → lentFault M (length before) rows ≡ found → LentAnalysis outcome before after (NotShown place)
-          → Filled (place - 1) (outcome .bounds) before after
-      go none q meets =
-          let one-less = verdict-not-shown (length rows) place (boundsBelow M [] rows) (sym (rw (q, judgedAfter) at (meets .answers))) in
-          filled (place - 1) outcome before after (rw (q, judgedAfter) (omega (arith, one-less))) (meets .leaves)
-      go (some f) q meets = let z : _≡_ {A = ℕ} 0 1 = cc (rw (q, judgedAfter) at (meets .answers)) in absurd (omega arith)
+-- There are no more bounds than entries: none where the list is refused, else at most one per row.
+bounds-fit : (M : ℕ) (rows : List Row) (before : List ℕ) → length (judgedOver M rows before .bounds) ≤ length before
+bounds-fit M rows before = go (listFault M rows) refl
+  where
+    go : (found : Option Fault) → listFault M rows ≡ found → length (judgedOver M rows before .bounds) ≤ length before
+    go (some fault) q = rw (into-faulty M (length before) rows fault q) (omega arith)
+    go none q =
+        elim (decLe (length rows) (length before)) [
+          | yes room ↦
+              rw (into-room M (length before) rows q room)
+              (omega (arith, few-bounds M rows (sound-list-means M rows .0 q)))
+          | no short ↦ rw (into-short M (length before) rows q (omega arith)) (omega arith)
+        ]
+
+pub length-kept : LengthKept
+unfolding written
+length-kept M rows before after answer meets =
+    let bounds = judgedOver M rows before .bounds in
+    rw (meets .leaves)
+    (omega (arith, bounds-fit M rows before, length-append bounds (drop (length bounds) before), length-drop (length bounds) before))

@@ -2,9 +2,11 @@
 use Prim.Native.Nat.{ℕ, _-_}
 use mathlib.Core.Path.{_≡_}
 use mathlib.Core.List.{List, _++_}
-use lib.ListN.{drop, take}
+use lib.ListN.{length, drop, take}
+use Rattle.quantities.specs.declared.Fault.{Fault}
+use Rattle.quantities.specs.declared.Row.{Row}
 use Rattle.quantities.specs.declared.Ticks.{Ticks}
-use Rattle.windows.specs.Answer.{Judged, written}
+use Rattle.windows.specs.Answer.{Judged, judgedInto, written}
 use Rattle.windows.specs.declared.Answer.{Answer}
 use Rattle.windows.specs.declared.Answer.the-variants.{Shown, NotShown, Refused}
 use Rattle.analysis.specs.Analysis.{numbers}
@@ -23,3 +25,49 @@ unfoldable pub shownBy : Answer → (count : ℕ) → ℕ
 shownBy Shown count = count
 shownBy (NotShown place) count = place - 1
 shownBy (Refused fault) count = 0
+
+-- The first n entries hold these bounds, and every later one is as it was.
+pub record Filled (n : ℕ) (bounds before after : List ℕ) : Type 0 where
+  pub many : length bounds ≡ n
+  pub first : take n after ≡ bounds
+  pub later : drop n after ≡ drop n before
+
+-- What is judged of these rows on M cores where the bounds list holds these entries.
+abbrev pub judgedOver : (M : ℕ) → List Row → (before : List ℕ) → Judged
+judgedOver M rows before = judgedInto M (length before) rows
+
+-- Numbers 1 to 7 write nothing to the bounds list.
+abbrev pub RefusedWritesNothing : Type 0
+RefusedWritesNothing =
+    (M : ℕ) (rows : List Row) (before after : List ℕ) (fault : Fault)
+    → LentAnalysis (judgedOver M rows before) before after (Refused fault)
+    → after ≡ before
+
+-- Number 8 leaves the bounds of the rows before the place in the first entries and every later entry untouched.
+abbrev pub NotShownLeaves : Type 0
+NotShownLeaves =
+    (M : ℕ) (rows : List Row) (before after : List ℕ) (place : ℕ)
+    → LentAnalysis (judgedOver M rows before) before after (NotShown place)
+    → Filled (place - 1) (judgedOver M rows before .bounds) before after
+
+-- Success fills one entry per row and touches no other.
+abbrev pub ShownFills : Type 0
+ShownFills =
+    (M : ℕ) (rows : List Row) (before after : List ℕ)
+    → LentAnalysis (judgedOver M rows before) before after Shown
+    → Filled (length rows) (judgedOver M rows before .bounds) before after
+
+-- Whatever the answer, the bounds list keeps its length.
+abbrev pub LengthKept : Type 0
+LengthKept =
+    (M : ℕ) (rows : List Row) (before after : List ℕ) (answer : Answer)
+    → LentAnalysis (judgedOver M rows before) before after answer
+    → length after ≡ length before
+
+-- Any two outcomes meeting the statement are equal.
+abbrev pub OneOutcome : Type 0
+OneOutcome =
+    (j : Judged) (before after after′ : List ℕ) (answer answer′ : Answer)
+    → LentAnalysis j before after answer
+    → LentAnalysis j before after′ answer′
+    → (after ≡ after′) × (answer ≡ answer′)
