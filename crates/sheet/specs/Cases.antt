@@ -137,3 +137,8 @@ rows-32 = refl
 rows-33 : answer (board ++ rowsDown 33 ++ (3 ∷ 33 ∷ [])) ≡ refused 14 548
 unfolding answer
 rows-33 = refl
+
+-- a 33rd row is one too many before its priority is looked at
+empty-box-33 : answer (board ++ rowsDown 32 ++ rowWith 0 0) ≡ refused 14 548
+unfolding answer
+empty-box-33 = refl

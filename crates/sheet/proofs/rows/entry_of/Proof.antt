@@ -15,7 +15,7 @@ to-ticks-requires-3 c κs = search needs
 
 returns : tie.Need-returns
 unfolding entryOf
-returns c = cc
+returns c = rw (c .to-ticks3 .ensures, c .before .to-ticks2 .ensures, c .before .before .to-ticks .ensures)
 
 pub entry-of-spec : {M : Type 1} → statement M
 entry-of-spec =
