@@ -57,7 +57,7 @@ kindOf (Board cores tick) = boardKind
 kindOf (Row fields) = rowKind
 kindOf (End count) = endKind
 
--- how many bytes a record takes
+-- how many bytes a record takes: the length that its kind fixes, also where it is cut short
 abbrev pub sizeOf : Record → ℕ
 sizeOf one = recordLength (kindOf one)
 

@@ -32,6 +32,9 @@ pub const ROW_KIND: u8 = 2;
 
 pub const END_KIND: u8 = 3;
 
+// The length of an end record, kind byte included: what stands after it on a sheet is too much.
+pub const END_LENGTH: usize = 2;
+
 // The length of a record by its kind, kind byte included; 0 for a kind that no record has.
 fn record_length(kind: u8) -> usize
     ensures { λ r. ⌜ r ≡ recordLength kind ⌝ }
@@ -43,7 +46,7 @@ fn record_length(kind: u8) -> usize
         return 17;
     }
     if kind == END_KIND {
-        return 2;
+        return END_LENGTH;
     }
     0
 }
@@ -133,7 +136,7 @@ pub fn record_on(part: &[u8]) -> Record
     Record::End(count)
 }
 
-// How many bytes a record takes.
+// How many bytes a record takes: the length that its kind fixes, also where it is cut short; 0 where there is no kind.
 pub fn size(found: Record) -> usize
     ensures { λ r. ⌜ r ≡ sizeOf found ⌝ }
 {

@@ -6,6 +6,7 @@ use quantities::Micros;
 use quantities::Table;
 use records::BOARD_KIND;
 use records::END_KIND;
+use records::END_LENGTH;
 use records::ROW_KIND;
 use records::Record;
 ghost use mathlib.Core.Path.{_≡_};
@@ -60,8 +61,8 @@ fn check_end(sheet: Sheet, count: usize, at: usize, left: usize) -> Verdict
     if count != sheet.count {
         return Verdict::Refused(17, at);
     }
-    if 2 < left {
-        return Verdict::Refused(18, at + 2);
+    if END_LENGTH < left {
+        return Verdict::Refused(18, at + END_LENGTH);
     }
     Verdict::Sound
 }
