@@ -52,7 +52,10 @@ def frames(contents):
     return b"".join(len(content).to_bytes(2, "big") + content for content in contents)
 
 
+# The input ends inside the second row of a history with no calls: it is not run, and has no answer.
+CUT = frames([history(1, ROWS)])[:-6]
+
 with open("stdin", "wb") as file:
-    file.write(frames(history for history, _ in CASES))
+    file.write(frames(history for history, _ in CASES) + CUT)
 with open("stdout", "wb") as file:
     file.write(frames(answer for _, answer in CASES))

@@ -13,6 +13,18 @@ use replay::Replayed;
 // The most bytes that stand after the first byte of an answer's frame.
 const MOST_ANSWERS: usize = 65534;
 
+// What was read of a row: it is cut where the input ends inside it.
+enum ReadRow {
+    Whole(Row),
+    Cut,
+}
+
+// What was read of the rows: all of them, or those before the one that is cut.
+struct ReadTable {
+    is_whole: bool,
+    table: Table,
+}
+
 // The length that stands before a frame's bytes.
 fn frame_size(high: u8, low: u8) -> usize {
     high as usize * 256 + low as usize
@@ -33,25 +45,42 @@ fn rows_size(rows: u8) -> usize {
 }
 
 // Reads the twelve bytes of a row.
-fn read_row() -> Row {
+fn read_row() -> ReadRow {
     let mut bytes = [0u8; 12];
-    io::read_full(STDIN_FILENO, &mut bytes);
+    let got = io::read_full(STDIN_FILENO, &mut bytes);
+    if got < 12 {
+        return ReadRow::Cut;
+    }
     let c = ticks(bytes[0], bytes[1], bytes[2], bytes[3]);
     let d = ticks(bytes[4], bytes[5], bytes[6], bytes[7]);
     let t = ticks(bytes[8], bytes[9], bytes[10], bytes[11]);
-    Row { c: c, d: d, t: t }
+    let row = Row { c: c, d: d, t: t };
+    ReadRow::Whole(row)
 }
 
 // Reads so many rows.
-fn read_table(rows: u8) -> Table {
+fn read_table(rows: u8) -> ReadTable {
     let mut table = Table::empty();
     let mut left = rows;
     while left > 0 {
-        let row = read_row();
-        table = table.with_row(row);
+        let read = read_row();
+        match read {
+            ReadRow::Cut => {
+                return ReadTable {
+                    is_whole: false,
+                    table: table,
+                };
+            }
+            ReadRow::Whole(row) => {
+                table = table.with_row(row);
+            }
+        }
         left -= 1;
     }
-    table
+    ReadTable {
+        is_whole: true,
+        table: table,
+    }
 }
 
 // So many of the bytes, or all where there are fewer.
@@ -137,8 +166,11 @@ fn pass_over(frame: &mut [u8]) -> bool {
 
 // Reads the rows of a history, then its calls.
 fn answer_rows(cores: u8, rows: u8, calls: &mut [u8]) -> bool {
-    let table = read_table(rows);
-    run_calls(wide(cores), table, calls)
+    let read = read_table(rows);
+    if !read.is_whole {
+        return false;
+    }
+    run_calls(wide(cores), read.table, calls)
 }
 
 // Reads a frame that has bytes for cores and rows, and `rest` bytes after them.

@@ -19,6 +19,15 @@ loop-holds c = search needs
 read-row-requires : tie.Need-read-row-requires Inv-loop μ-loop
 read-row-requires c κs = search needs
 
+enum-told : tie.Need-enum-told Inv-loop μ-loop
+enum-told c = search needs
+
+returns : tie.Need-returns Inv-loop μ-loop
+returns c = search needs
+
+enum-known-read : tie.Need-enum-known-read Inv-loop μ-loop
+enum-known-read c = search needs
+
 with-row-requires : tie.Need-with-row-requires Inv-loop μ-loop
 with-row-requires c κs = search needs
 
@@ -31,8 +40,8 @@ loop-less c = search needs
 loop-again : tie.Need-loop-again Inv-loop μ-loop
 loop-again c = search needs
 
-returns : tie.Need-returns Inv-loop μ-loop
-returns c = search needs
+returns-2 : tie.Need-returns-2 Inv-loop μ-loop
+returns-2 c = search needs
 
 pub read-table-spec : {M : Type 1} → statement M
 read-table-spec =
@@ -43,8 +52,11 @@ read-table-spec =
     empty-requires
     loop-holds
     read-row-requires
+    enum-told
+    returns
+    enum-known-read
     with-row-requires
     sub-left
     loop-less
     loop-again
-    returns)
+    returns-2)
