@@ -1,8 +1,8 @@
 -- The place of an answer is small: at most one past the rows, and a loaded table counts at most one row too many.
-use Prim.Native.Nat.{ℕ, zero, suc, _+_, _≤_, _<_}
+use Prim.Native.Nat.{ℕ, zero, suc, _+_, _≤_}
 use native.Mathlib.Omega.{arith}
 use native.Mathlib.Decide.{decLe, ℕ-discrete as decEq}
-use mathlib.Core.Path.{_≡_, refl, sym, ap, _∙_}
+use mathlib.Core.Path.{_≡_, refl}
 use mathlib.Core.Bool.{Bool, true, false}
 use mathlib.Core.List.{List, [], _∷_, _++_}
 use mathlib.Core.Option.{Option, none, some}
@@ -11,21 +11,20 @@ use borrow.Author.Tests.{lt-ltb, le-ltb}
 use Rattle.laws.specs.Each.{Each}
 use Rattle.laws.proofs.Lists.{each-append}
 use Rattle.quantities.specs.Limits.{rowCapacity}
-use Rattle.quantities.specs.Table.{rowsOf, emptyTable, withRow}
+use Rattle.quantities.specs.Table.{emptyTable, withRow}
 use Rattle.quantities.specs.Checks.{Check, rowChecks, rowsChecks, listChecks, roomChecks, firstFailing, faultFrom, lentFault}
 use Rattle.quantities.specs.declared.Row.{Row}
 use Rattle.quantities.specs.declared.Table.{Table}
 use Rattle.quantities.specs.declared.Fault.{Fault}
 use Rattle.quantities.specs.declared.Fault.the-variants.{WholeList, OneRow}
-use Rattle.quantities.proofs.Rows.{length-rows}
 use Rattle.windows.specs.Bound.{boundsBelow, boundOf}
 use Rattle.windows.specs.Choice.{Bounded, bounded}
 use Rattle.quantities.specs.Paper.{faultPaper}
-use Rattle.windows.specs.Answer.{Judged, verdict, judgedAfter, judgedInto, paperOf}
-use Rattle.windows.specs.declared.Answer.the-variants.{Shown, NotShown, Refused}
+use Rattle.windows.specs.Answer.{verdict, judgedAfter, judgedInto, paperOf}
+use Rattle.windows.specs.declared.Answer.the-variants.{Refused}
 use Rattle.windows.proofs.Judgement.{verdict-all, verdict-short}
 use Rattle.windows.specs.Judgement.{rowAt}
-use Rattle.lentrows.specs.Loaded.{loaded, tableOf}
+use Rattle.lentrows.specs.Loaded.{loaded}
 
 -- checks that speak of places up to n
 abbrev PlacesTo : ℕ → List Check → Type 0

@@ -1,7 +1,7 @@
 -- What the statements of the calls on a lent bench say: one outcome, nothing changed by a refused call, and a loop of them.
 use Prim.Native.Nat.{ℕ}
 use mathlib.Core.Path.{_≡_, refl, sym, ap, _∙_}
-use mathlib.Core.List.{List, [], _∷_}
+use mathlib.Core.List.{List}
 use Rattle.bench.specs.History.{Call, releases, ticks, after, steps}
 use Rattle.bench.specs.Step.{Step, release, tick}
 use Rattle.bench.specs.declared.Bench.{Bench}

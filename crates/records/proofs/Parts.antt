@@ -1,8 +1,8 @@
 -- Laws of a record at the front of a part: what stands behind it makes no difference.
 use Prim.Native.Nat.{ℕ, _+_, _≤_, _<_}
 use native.Mathlib.Omega.{arith}
-use mathlib.Core.Path.{_≡_, refl, sym, ap, _∙_}
-use mathlib.Core.List.{List, [], _∷_, _++_}
+use mathlib.Core.Path.{_≡_, sym, ap, _∙_}
+use mathlib.Core.List.{List, _++_}
 use lib.ListN.{length, getD, take, drop, length-append, length-drop, length-take, take-append-drop, List·getD-append}
 use lib.Seq.{drop-append-le, take-append-le, getD-take}
 use Rattle.records.specs.Bytes.{field}

@@ -2,11 +2,10 @@
 use Prim.Native.Nat.{ℕ, suc, _+_, _*_, _-_, _≤_, _<_}
 use native.Mathlib.Omega.{arith}
 use native.Mathlib.Nat.{add-zero}
-use mathlib.Core.Path.{_≡_, refl, sym, ap, _∙_}
-use mathlib.Core.Bool.{Bool, true, false}
+use mathlib.Core.Path.{_≡_, sym, ap, _∙_}
+use mathlib.Core.Bool.{Bool}
 use mathlib.Core.List.{List, [], _∷_, _++_, map}
-use mathlib.Core.Option.{Option, none, some}
-use lib.Dec.{ltb}
+use mathlib.Core.Option.{none, some}
 use lib.ListN.{length, drop, length-drop, length-append, drop-of-length-le}
 use lib.Seq.{sets, length-sets, drop-drop}
 use borrow.Author.Tests.{lt-ltb, le-ltb}
@@ -21,10 +20,10 @@ use Rattle.bench.specs.declared.Opening.{Opening}
 use Rattle.bench.specs.declared.Request.{Request}
 use Rattle.bench.specs.Step.{Step, emptyBench, openingOf}
 use Rattle.bench.proofs.Open.{opening-sound}
-use Rattle.bench.specs.History.{Call, doCall, callOf, steps}
+use Rattle.bench.specs.History.{doCall, callOf, steps}
 use Rattle.replay.specs.declared.Replayed.the-variants.{Done, NotOpened, NotACall, NoRoom}
 use Rattle.replay.specs.Format.{requestIn, answerBytes, joined}
-use Rattle.replay.specs.Replay.{Requests, requestsIn, Replay, ending, answered, replayFrom, replayAfter, replay}
+use Rattle.replay.specs.Replay.{requestsIn, Replay, ending, answered, replayFrom, replayAfter, replay}
 use Rattle.replay.proofs.Format.{requests-stop, requests-next}
 use Rattle.replay.proofs.Writes.{sets-append}
 

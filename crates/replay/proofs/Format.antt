@@ -1,18 +1,17 @@
 -- Laws of calls as bytes: what the first six bytes of a list say, and the calls after them.
-use Prim.Native.Nat.{ℕ, suc, _+_, _*_, _-_, _≤_, _<_}
+use Prim.Native.Nat.{ℕ, suc, _+_, _*_, _≤_, _<_}
 use native.Mathlib.Omega.{arith}
-use native.Mathlib.Numerals.{add-one}
-use mathlib.Core.Path.{_≡_, refl, sym, ap, _∙_}
-use mathlib.Core.Bool.{true, false}
+use mathlib.Core.Path.{_≡_, refl}
+use mathlib.Core.Bool.{false}
 use mathlib.Core.List.{List, [], _∷_}
-use mathlib.Core.Option.{Option, none, some}
-use lib.ListN.{length, getD, drop, length-drop}
+use mathlib.Core.Option.{none, some}
+use lib.ListN.{length, getD, drop}
 use lib.Seq.{drop-cons}
 use borrow.Author.Tests.{eq-eqb, ne-eqb}
 use Rattle.bench.specs.declared.Request.{Request}
 use Rattle.bench.specs.declared.Request.the-variants.{Release, Tick}
 use Rattle.replay.specs.Format.{requestOf, requestIn}
-use Rattle.replay.specs.Replay.{Requests, inFront, requestsIn}
+use Rattle.replay.specs.Replay.{requestsIn}
 
 -- fewer than six bytes are no call
 pub request-short : (bytes : List ℕ) → length bytes < 6 → requestIn bytes ≡ none

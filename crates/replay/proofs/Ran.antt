@@ -2,21 +2,19 @@
 use Prim.Native.Nat.{ℕ, _+_, _≤_}
 use native.Mathlib.Omega.{arith}
 use native.Mathlib.Nat.{zero-add}
-use mathlib.Core.Path.{_≡_, refl, sym, ap, _∙_}
+use mathlib.Core.Path.{_≡_, _∙_}
 use mathlib.Core.Bool.{true}
 use mathlib.Core.List.{List, map, _++_}
-use mathlib.Core.Option.{Option, none, some}
+use mathlib.Core.Option.{some}
 use lib.ListN.{length, drop}
-use lib.Seq.{sets, sets-eq}
-use Rattle.quantities.specs.Checks.{listFault}
-use Rattle.quantities.specs.Table.{rowsOf}
+use lib.Seq.{sets-eq}
 use Rattle.quantities.specs.declared.Table.{Table}
 use Rattle.bench.specs.declared.Bench.{Bench}
-use Rattle.bench.specs.Step.{emptyBench, opened}
+use Rattle.bench.specs.Step.{opened}
 use Rattle.bench.specs.History.{callOf, steps}
 use Rattle.bench.proofs.Kept.{opened-empty}
 use Rattle.replay.specs.declared.Replayed.the-variants.{Done}
-use Rattle.replay.specs.Replay.{Requests, requestsIn, Replay, replay, replayAfter, replayFrom}
+use Rattle.replay.specs.Replay.{requestsIn, replay, replayAfter, replayFrom}
 use Rattle.replay.specs.Format.{joined}
 use Rattle.replay.proofs.Calls.{replay-run}
 

@@ -2,7 +2,7 @@
 use Prim.Native.Nat.{ℕ, suc, _+_, _*_, _-_, _≤_, _<_}
 use native.Mathlib.Omega.{arith}
 use mathlib.Core.Path.{_≡_, refl, sym, ap, _∙_}
-use mathlib.Core.List.{List, [], _∷_, _++_}
+use mathlib.Core.List.{List}
 use mathlib.Core.Option.{Option, none, some}
 use lib.ListN.{length, take, drop, length-drop, length-take, replicate}
 use lib.Seq.{sets, length-sets, take-append-seam}
@@ -16,17 +16,16 @@ use Rattle.bench.specs.declared.Ticked.{Ticked}
 use Rattle.bench.specs.Record.{rows}
 use Rattle.bench.specs.Refusal.{firstRefusal, tickTests}
 use Rattle.bench.specs.Ended.{noFinish, finishesOf}
-use Rattle.bench.specs.Step.{Step, served, taken, tick, release, tickedOf}
+use Rattle.bench.specs.Step.{Step, served, taken, tick, tickedOf}
 use Rattle.bench.specs.History.{Call, releases, ticks, doCall, callOf}
 use Rattle.bench.proofs.Record.{whole-of, sound-fits}
 use Rattle.bench.proofs.Permitted.{may-tick}
 use Rattle.bench.proofs.Serving.{finished-few, length-units}
 use Rattle.bench.proofs.Steps.{tick-taken, tick-refused, release-no-polls}
-use Rattle.replay.specs.declared.Read.{Read}
 use Rattle.replay.specs.declared.Read.the-variants.{Nothing as NoCall, Call as OneCall}
 use Rattle.replay.specs.declared.Replayed.the-variants.{Done, NotACall, NoRoom}
-use Rattle.replay.specs.Format.{requestIn, readOf, pollsBytes, answerOf, answerBytes}
-use Rattle.replay.specs.Replay.{Replay, replayFrom}
+use Rattle.replay.specs.Format.{requestIn, readOf, answerOf, answerBytes}
+use Rattle.replay.specs.Replay.{replayFrom}
 use Rattle.replay.proofs.Format.{requests-next}
 use Rattle.replay.proofs.Writes.{counted, length-polls}
 use Rattle.replay.proofs.Calls.{replayRest, no-call, no-room, one-more, all-done}

@@ -1,12 +1,12 @@
 -- Laws of answers as bytes: what a run of stores leaves in the buffer.
-use Prim.Native.Nat.{ℕ, suc, _+_, _*_, _-_, _≤_, _<_, _/_}
+use Prim.Native.Nat.{ℕ, suc, _+_, _*_, _≤_, _<_, _/_}
 use native.Mathlib.Omega.{arith}
 use native.Mathlib.Nat.{add-zero}
 use native.Mathlib.Numerals.{add-one}
 use mathlib.Core.Path.{_≡_, refl, sym, ap, _∙_}
 use mathlib.Core.List.{List, [], _∷_, _++_}
-use lib.ListN.{length, getD, take, drop, set, length-set, length-append, length-take, drop-of-length-le}
-use lib.Seq.{sets, length-sets, drop-cons, getD-take, length-take-le}
+use lib.ListN.{length, getD, take, drop, set, length-append, length-take, drop-of-length-le}
+use lib.Seq.{sets, length-sets, drop-cons, getD-take}
 use Rattle.bench.specs.declared.Finish.{Finish}
 use Rattle.bench.specs.declared.Finishes.{Finishes}
 use Rattle.bench.specs.declared.Outcome.{Outcome}

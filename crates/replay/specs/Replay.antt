@@ -1,7 +1,7 @@
 -- What a replay answers, and what it leaves in the lent buffer.
 use Prim.Native.Nat.{ℕ, _+_, _-_}
 use mathlib.Core.Bool.{Bool, true, false}
-use mathlib.Core.List.{List, [], _∷_, _++_}
+use mathlib.Core.List.{List, [], _∷_}
 use mathlib.Core.Option.{Option, none, some}
 use lib.Dec.{ltb}
 use lib.ListN.{length}
@@ -12,8 +12,8 @@ use Rattle.quantities.specs.declared.Table.{Table}
 use Rattle.quantities.specs.declared.Fault.{Fault}
 use Rattle.bench.specs.declared.Bench.{Bench}
 use Rattle.bench.specs.declared.Request.{Request}
-use Rattle.bench.specs.Step.{Step, emptyBench}
-use Rattle.bench.specs.History.{Call, doCall, callOf, steps}
+use Rattle.bench.specs.Step.{emptyBench}
+use Rattle.bench.specs.History.{doCall, callOf}
 use Rattle.replay.specs.declared.Replayed.{Replayed}
 use Rattle.replay.specs.declared.Replayed.the-variants.{Done, NotOpened, NotACall, NoRoom}
 use Rattle.replay.specs.Format.{requestOf, answerBytes}

@@ -1,14 +1,14 @@
 -- Rows that are accepted one after the other: few enough, permitted priorities, all different.
-use Prim.Native.Nat.{ℕ, suc, _+_, _≤_, _<_}
+use Prim.Native.Nat.{ℕ, _+_, _≤_, _<_}
 use native.Mathlib.Omega.{arith}
-use mathlib.Core.Path.{_≡_, refl, sym, ap, _∙_}
+use mathlib.Core.Path.{_≡_, refl, sym, _∙_}
 use mathlib.Core.Bool.{Bool, true, false, _||_}
 use mathlib.Core.List.{List, [], _∷_, _++_}
 use lib.Dec.{eqb}
 use lib.ListN.{length}
 use Rattle.laws.specs.Each.{Each}
 use Rattle.laws.specs.Permuted.{Permuted, as-is, keep, swap, both}
-use Rattle.laws.proofs.Permuted.{permuted-back, permuted-after, permuted-move}
+use Rattle.laws.proofs.Permuted.{permuted-after, permuted-move}
 use Rattle.quantities.specs.Limits.{rowCapacity}
 use Rattle.sheet.specs.Entries.{used, inserted, insertedAll, Rising, Different}
 use Rattle.sheet.specs.Whole.{Permitted}

@@ -1,19 +1,17 @@
 -- What the reader's answer promises: the sheet's rows, each once, in rising priority, whatever their order on the sheet.
-use Prim.Native.Nat.{ℕ, zero, suc, _+_, _*_, _≤_, _<_}
+use Prim.Native.Nat.{ℕ, zero, suc, _+_, _≤_}
 use native.Mathlib.Omega.{arith}
 use mathlib.Core.Path.{_≡_, refl, sym, ap, _∙_}
 use mathlib.Core.Bool.{Bool, true, false}
-use mathlib.Core.List.{List, [], _∷_, _++_, append-nil}
+use mathlib.Core.List.{List, [], _++_, append-nil}
 use lib.ListN.{length, drop, length-append}
-use Rattle.laws.specs.Each.{Each}
 use Rattle.laws.specs.Permuted.{Permuted, as-is, keep, swap, both}
 use Rattle.laws.proofs.Permuted.{permuted-back, permuted-length, permuted-each}
-use Rattle.quantities.specs.Limits.{rowCapacity}
 use Rattle.quantities.specs.declared.Micros.{Micros}
 use Rattle.records.specs.Records.{rowKind, rowFields, recordOn, sizeOf, isEnd, OneRecord}
 use Rattle.records.specs.declared.Record.{Record}
 use Rattle.records.proofs.Records.{length-board, length-end}
-use Rattle.sheet.specs.Entries.{entryOf, entriesOf, used, insertedAll, sheetOf, Rising, Different}
+use Rattle.sheet.specs.Entries.{entryOf, entriesOf, insertedAll, sheetOf, Rising, Different}
 use Rattle.sheet.specs.Reader.{noSheet, newReading, afterRecord, refused, whole, readFrom, readOf}
 use Rattle.sheet.specs.Whole.{joined, entriesOn, coresOn, tickOn, Permitted, WholeSheet, bytesOf, MadeOf}
 use Rattle.sheet.specs.declared.Entry.{Entry}
@@ -27,7 +25,7 @@ use Rattle.sheet.proofs.Checks.{sound-not-refused}
 use Rattle.sheet.proofs.Reader.{verdictAt, behind, read-refused, read-whole, read-on}
 use Rattle.sheet.proofs.Order.{rising-permuted, unused-first, unused-rest}
 use Rattle.sheet.proofs.Sheets.{entries-of-sheet}
-use Rattle.sheet.proofs.Accepted.{Accepted, accepted, accepted-rising, all-permuted, used-permuted}
+use Rattle.sheet.proofs.Accepted.{accepted-rising, all-permuted, used-permuted}
 use Rattle.sheet.proofs.Whole.{whole-read, whole-accepted, length-joined}
 use Rattle.sheet.proofs.Sound.{sound-made}
 

@@ -2,11 +2,11 @@
 use Prim.Native.Nat.{ℕ, suc, _+_, _≤_, _<_}
 use native.Mathlib.Numerals.{add-one}
 use native.Mathlib.Omega.{arith}
-use mathlib.Core.Path.{_≡_, refl, sym, ap, _∙_}
-use mathlib.Core.Bool.{true, false}
+use mathlib.Core.Path.{_≡_}
+use mathlib.Core.Bool.{true}
 use mathlib.Core.List.{List, [], _∷_, _++_, append-assoc}
 use lib.ListN.{length, getD, take, drop, set, length-take, drop-of-length-le}
-use lib.Seq.{drop-cons, getD-take, take-suc, take-suc-set, drop-set-lt, take-set-lt, set-split, slice, slice-cons, slice-empty, append-snoc}
+use lib.Seq.{drop-cons, getD-take, take-suc, take-suc-set, drop-set-lt, take-set-lt, set-split, slice, slice-cons, slice-empty}
 use borrow.Author.Tests.{eq-eqb, ne-eqb, lt-ltb, le-ltb}
 use Rattle.quantities.specs.Limits.{rowCapacity}
 use Rattle.sheet.specs.Entries.{noEntry, entriesOf, used, inserted}

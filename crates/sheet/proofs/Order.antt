@@ -1,20 +1,18 @@
 -- The order of the entries: a new one keeps them rising and adds itself alone, and rising entries have one order only.
-use Prim.Native.Nat.{ℕ, suc, _+_, _-_, _≤_, _<_}
+use Prim.Native.Nat.{ℕ, suc, _<_}
 use native.Mathlib.Omega.{arith}
-use native.Mathlib.Numerals.{add-one}
-use mathlib.Core.Logic.{_⊎_, inl, inr, ⊎-elim}
+use mathlib.Core.Logic.{inl, inr, ⊎-elim}
 use mathlib.Core.Path.{_≡_, refl, sym, ap, _∙_}
 use mathlib.Core.Bool.{Bool, true, false, cond, _||_}
-use mathlib.Core.List.{List, [], _∷_, _++_}
+use mathlib.Core.List.{List, [], _∷_}
 use lib.Dec.{eqb, ltb}
-use lib.ListN.{length, take, drop, replicate}
-use lib.Seq.{take-append-seam}
-use borrow.Author.Tests.{ltb-true, ltb-false, eqb-false, lt-ltb, ne-eqb}
+use lib.ListN.{length}
+use borrow.Author.Tests.{ltb-true, ltb-false, eqb-false}
 use Rattle.laws.specs.Each.{Each}
 use Rattle.laws.specs.Member.{Member}
 use Rattle.laws.specs.Permuted.{Permuted, as-is, keep, swap, both}
 use Rattle.laws.proofs.Permuted.{permuted-back, permuted-length, permuted-member}
-use Rattle.sheet.specs.Entries.{used, inserted, insertedAll, Rising, Different}
+use Rattle.sheet.specs.Entries.{used, inserted, Rising}
 use Rattle.sheet.specs.declared.Entry.{Entry}
 use Rattle.sheet.proofs.Entries.{used-below}
 

@@ -4,7 +4,7 @@ use native.Mathlib.Omega.{arith}
 use native.Mathlib.Decide.{decLe}
 use mathlib.Core.Path.{_≡_, refl, sym, ap, _∙_}
 use mathlib.Core.Bool.{Bool, true, false}
-use mathlib.Core.List.{List, [], _∷_, _++_}
+use mathlib.Core.List.{List}
 use lib.Dec.{ltb}
 use lib.ListN.{length, getD, take, drop, length-take, length-drop, take-append-drop}
 use lib.Seq.{take-all, getD-take}
@@ -12,7 +12,7 @@ use borrow.Author.Tests.{lt-ltb}
 use Rattle.laws.proofs.Lists.{drop-take}
 use Rattle.quantities.specs.Limits.{rowCapacity}
 use Rattle.records.specs.Bytes.{field}
-use Rattle.records.specs.Records.{boardKind, rowKind, endKind, recordLength, rowFields, recordOn, kindOf, sizeOf, isEnd}
+use Rattle.records.specs.Records.{boardKind, rowKind, recordLength, rowFields, recordOn, kindOf, sizeOf, isEnd}
 use Rattle.records.specs.declared.Record.{Record}
 use Rattle.records.specs.declared.Record.the-variants.{Missing, Unknown, Cut, Board, Row, End}
 use Rattle.records.proofs.Records.{Found, nothing, unknown, cut, board, row, end, found, length-board, length-row, length-end, length-most, on-unknown}

@@ -2,15 +2,14 @@
 use Prim.Native.Nat.{ℕ, _≤_}
 use native.Mathlib.Omega.{arith}
 use mathlib.Core.Path.{_≡_, refl, sym, ap, _∙_}
-use mathlib.Core.List.{List, [], map}
+use mathlib.Core.List.{List, []}
 use lib.ListN.{length}
 use Rattle.laws.proofs.Permuted.{permuted-length}
 use Rattle.quantities.specs.Limits.{rowCapacity}
-use Rattle.quantities.specs.Table.{rowsOf}
 use Rattle.quantities.specs.declared.Micros.{Micros}
-use Rattle.sheet.specs.Entries.{entriesOf, tableOf, sheetOf, boardSheet, Rising}
+use Rattle.sheet.specs.Entries.{sheetOf, Rising}
 use Rattle.sheet.specs.Reader.{noSheet, refused, whole, readOf, paperOf}
-use Rattle.sheet.specs.Whole.{entriesOn, coresOn, tickOn, MadeOf}
+use Rattle.sheet.specs.Whole.{coresOn, tickOn, MadeOf}
 use Rattle.sheet.specs.Promises.{WholeExactly, BoardAnswered, EachRowOnce, PrioritiesRise, TableInOrder, AnyOrder, NoTableRefused, FaultySheetTurnedAway, RefusedByFirstFault, AtMost550, First1024, OneOutcome}
 use Rattle.sheet.specs.declared.Entry.{Entry}
 use Rattle.sheet.specs.declared.Sheet.{Sheet}

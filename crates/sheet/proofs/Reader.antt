@@ -2,11 +2,11 @@
 use Prim.Native.Nat.{ℕ, suc, _+_, _-_, _≤_, _<_}
 use native.Mathlib.Omega.{arith}
 use mathlib.Core.Path.{_≡_, refl, sym, _∙_}
-use mathlib.Core.Bool.{Bool, true, false}
-use mathlib.Core.List.{List, [], _∷_}
+use mathlib.Core.Bool.{true, false}
+use mathlib.Core.List.{List}
 use lib.ListN.{length, getD, drop, length-drop}
 use lib.Seq.{drop-drop}
-use Rattle.records.specs.Records.{recordLength, recordOn, kindOf, sizeOf, isEnd}
+use Rattle.records.specs.Records.{recordOn, kindOf, sizeOf, isEnd}
 use Rattle.records.specs.declared.Record.{Record}
 use Rattle.records.proofs.Records.{Found, nothing, unknown, cut, board, row, end, found, length-board, length-row, length-end}
 use Rattle.sheet.specs.Checks.{recordChecks, verdictOf}

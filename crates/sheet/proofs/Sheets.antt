@@ -1,10 +1,10 @@
 -- Laws of the sheet of a list of entries: what it holds, and one entry more.
-use Prim.Native.Nat.{ℕ, suc, _+_, _-_, _≤_, _<_}
+use Prim.Native.Nat.{ℕ, suc, _+_, _-_, _<_}
 use native.Mathlib.Omega.{arith}
 use native.Mathlib.Numerals.{add-one}
-use mathlib.Core.Path.{_≡_, refl, sym, ap, _∙_}
-use mathlib.Core.List.{List, [], _∷_, _++_}
-use lib.ListN.{length, take, drop, replicate}
+use mathlib.Core.Path.{_≡_, refl}
+use mathlib.Core.List.{List, [], _++_}
+use lib.ListN.{length, drop, replicate}
 use lib.Seq.{take-append-seam, drop-append-add}
 use borrow.Author.Tests.{lt-ltb}
 use Rattle.quantities.specs.Limits.{rowCapacity}

@@ -2,16 +2,15 @@
 use Prim.Native.Nat.{ℕ, zero, suc, _+_, _≤_, _<_}
 use native.Mathlib.Omega.{arith}
 use mathlib.Core.Path.{_≡_, refl, sym, ap, _∙_}
-use mathlib.Core.Bool.{Bool, true, false}
+use mathlib.Core.Bool.{false}
 use mathlib.Core.List.{List, [], _∷_, _++_, append-assoc}
 use lib.ListN.{length, getD, take, drop, take-append-drop}
 use Rattle.laws.specs.Each.{Each}
 use Rattle.quantities.specs.Limits.{rowCapacity}
 use Rattle.quantities.specs.declared.Micros.{Micros}
 use Rattle.records.specs.Bytes.{field}
-use Rattle.records.specs.Records.{boardKind, rowKind, endKind, recordLength, rowFields, recordOn, OneRecord}
+use Rattle.records.specs.Records.{boardKind, rowKind, endKind, rowFields, recordOn, OneRecord}
 use Rattle.records.specs.declared.Record.{Record}
-use Rattle.records.specs.declared.Record.the-variants.{Board, Row, End}
 use Rattle.records.proofs.Records.{Found, nothing, unknown, cut, board, row, end, found, length-board, length-row, length-end}
 use Rattle.records.proofs.Parts.{front-record, front-fields, front-field}
 use Rattle.sheet.specs.Entries.{entryOf, used, inserted, sheetOf}
@@ -25,7 +24,7 @@ use Rattle.sheet.specs.declared.Verdict.the-variants.{Sound, Refused}
 use Rattle.sheet.specs.declared.Outcome.{Outcome}
 use Rattle.sheet.proofs.Sheets.{entries-of-sheet, count-of-sheet}
 use Rattle.sheet.proofs.Checks.{SoundRow, sound-not-refused, missing-not-sound, unknown-not-sound, cut-not-sound, board-misplaced, board-placed, row-misplaced, row-placed, end-misplaced, end-placed, sound-row, sound-end, sound-board}
-use Rattle.sheet.proofs.Accepted.{Accepted, Acceptable, acceptable}
+use Rattle.sheet.proofs.Accepted.{Accepted, acceptable}
 use Rattle.sheet.proofs.Reader.{verdictAt, read-refused}
 use Rattle.sheet.proofs.Order.{length-inserted}
 use Rattle.sheet.proofs.Whole.{rowsAt, board-fits, rows-placed, row-read, board-read, length-entries}

@@ -1,32 +1,30 @@
 -- A sheet is without fault exactly when it is a board record, rows and an end record as document 01 asks.
 use Prim.Native.Nat.{ℕ, zero, suc, _+_, _*_, _≤_, _<_}
 use native.Mathlib.Omega.{arith}
-use mathlib.Core.Path.{_≡_, refl, sym, ap, _∙_}
-use mathlib.Core.Bool.{Bool, true, false}
+use mathlib.Core.Path.{_≡_, refl, ap, _∙_}
+use mathlib.Core.Bool.{true, false}
 use mathlib.Core.List.{List, [], _∷_, _++_, append-assoc}
-use lib.ListN.{length, getD, take, drop, length-append, take-append-drop, List·getD-append}
+use lib.ListN.{length, getD, drop, length-append, List·getD-append}
 use lib.Seq.{drop-at}
 use Rattle.laws.specs.Each.{Each}
 use Rattle.quantities.specs.Limits.{rowCapacity}
 use Rattle.quantities.specs.declared.Micros.{Micros}
 use Rattle.records.specs.Bytes.{field}
-use Rattle.records.specs.Records.{boardKind, rowKind, endKind, recordLength, rowFields, recordOn, kindOf, sizeOf, isEnd, OneRecord}
+use Rattle.records.specs.Records.{boardKind, rowKind, endKind, rowFields, kindOf, isEnd, OneRecord}
 use Rattle.records.specs.declared.RowFields.{RowFields}
-use Rattle.records.specs.declared.Record.{Record}
-use Rattle.records.specs.declared.Record.the-variants.{Board, Row, End}
+use Rattle.records.specs.declared.Record.the-variants.{Row}
 use Rattle.records.proofs.Records.{length-board, length-row, length-end}
 use Rattle.records.proofs.Parts.{on-row, fields-front, board-front, end-alone}
 use Rattle.sheet.specs.Entries.{entryOf, used, inserted, insertedAll, withEntry, sheetOf}
-use Rattle.sheet.specs.Checks.{misplaced, recordChecks, verdictOf}
-use Rattle.sheet.specs.Reader.{newReading, afterRecord, refused, whole, readFrom, readOf}
-use Rattle.sheet.specs.Whole.{joined, entriesOn, coresOn, tickOn, Permitted, WholeSheet, bytesOf}
+use Rattle.sheet.specs.Checks.{misplaced}
+use Rattle.sheet.specs.Reader.{newReading, afterRecord, whole, readFrom, readOf}
+use Rattle.sheet.specs.Whole.{joined, entriesOn, coresOn, tickOn, WholeSheet, bytesOf}
 use Rattle.sheet.specs.declared.Entry.{Entry}
 use Rattle.sheet.specs.declared.Reading.{Reading}
-use Rattle.sheet.specs.declared.Verdict.{Verdict}
-use Rattle.sheet.specs.declared.Verdict.the-variants.{Sound, Refused}
-use Rattle.sheet.proofs.Sheets.{board-sheet, entries-of-sheet, count-of-sheet, tick-of-sheet, sheet-with}
+use Rattle.sheet.specs.declared.Verdict.the-variants.{Sound}
+use Rattle.sheet.proofs.Sheets.{board-sheet, entries-of-sheet, count-of-sheet, sheet-with}
 use Rattle.sheet.proofs.Checks.{SoundRow, SoundEnd, board-placed, row-placed, end-placed, row-sound, end-sound, board-sound}
-use Rattle.sheet.proofs.Accepted.{Accepted, Fresh, Acceptable, accepted, acceptable}
+use Rattle.sheet.proofs.Accepted.{Accepted, Fresh, accepted}
 use Rattle.sheet.proofs.Order.{length-inserted}
 use Rattle.sheet.proofs.Reader.{verdictAt, read-whole, read-on}
 

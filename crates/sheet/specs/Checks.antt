@@ -1,8 +1,8 @@
 -- The checks of a record, in the order of document 01, and the verdict that they give.
 use Prim.Native.Nat.{ℕ, _+_}
-use mathlib.Core.Bool.{Bool, true, false, not, cond, _||_}
+use mathlib.Core.Bool.{Bool, true, not, cond, _||_}
 use mathlib.Core.List.{List, [], _∷_}
-use mathlib.Core.Option.{Option, none, some}
+use mathlib.Core.Option.{none, some}
 use lib.Dec.{eqb, leb, ltb}
 use Rattle.quantities.specs.Limits.{rowCapacity}
 use Rattle.quantities.specs.Checks.{Check, check, firstFailing}

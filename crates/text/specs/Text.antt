@@ -1,5 +1,5 @@
 -- The text that the program prints for a sheet: its answer by the definitions, in the lines of document 01.
-use Prim.Native.Nat.{ℕ, _+_, _-_}
+use Prim.Native.Nat.{ℕ, _-_}
 use mathlib.Core.List.{List, _++_}
 use lib.ListN.{length, getD}
 use Rattle.quantities.specs.Table.{rowsOf}

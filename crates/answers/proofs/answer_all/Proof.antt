@@ -1,5 +1,4 @@
 -- answer_all ends: the measure is the number of turns that are left. The room keeps its length.
-use native.Mathlib.Omega.{arith}
 use borrow.Author.Needs.{needs}
 use mathlib.Core.Path.{_≡_}
 use lib.ListN.{length}

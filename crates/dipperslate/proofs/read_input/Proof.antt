@@ -1,6 +1,5 @@
 -- read_input answers how many bytes it read, within its room; each turn reads one byte or more.
 use Prim.Native.Nat.{ℕ, _-_, _≤_}
-use native.Mathlib.Omega.{arith}
 use borrow.Author.Needs.{needs}
 use mathlib.Core.Path.{_≡_, sym}
 use mathlib.Core.List.{List}

@@ -1,7 +1,6 @@
 -- code_of answers the code of number and place, case by case of the answer.
 use Prim.Native.Nat.{ℕ, _<_}
-use mathlib.Core.Path.{_≡_, refl, ap, sym, _∙_}
-use Rattle.quantities.specs.declared.Fault.{Fault}
+use mathlib.Core.Path.{_≡_, refl, ap, _∙_}
 use Rattle.quantities.specs.declared.Fault.the-variants.{WholeList, OneRow}
 use Rattle.quantities.specs.Paper.{faultPaper}
 use Rattle.windows.specs.Answer.{paperOf}

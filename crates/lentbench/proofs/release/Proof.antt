@@ -38,7 +38,7 @@ use denote.Triple.Spec.{Meets, tripleOf}
 use denote.Triple.Table.{entered, cited}
 use denote.Triple.Walked.{says, Stays, stay-ref, stay-none, walkOf, AllGo, goes-ref, goes-none, Walks, ends-at, walked, walk-meets}
 use denote.Triple.Clauses.{ensured, lasts}
-use Rattle.bench.specs.Step.{Step as Stepped, release as releaseStep, releasedOf}
+use Rattle.bench.specs.Step.{release as releaseStep, releasedOf}
 use Rattle.bench.specs.declared.Bench.{Bench}
 use Rattle.bench.specs.declared.Released.{Released}
 use Rattle.lentbench.specs.Lent.{LentRelease}

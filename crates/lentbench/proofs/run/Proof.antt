@@ -20,7 +20,7 @@ use ghost.Atoms.{Atoms, sem}
 use contract.Monad.{Fun, fact, fact-use}
 use contract.Running.{givenOf, tables, tablesOf}
 use sound.WpLaws.{FmC, fmOf, WpFn-mono}
-use types.Kit.{Given, Item, ‵, raw, _⊛_, some, later, given, ⋆, runs, anyQ, atRet, Sq, _$_, _∵_, !, qed, by, move, keep, drop, use1, use2, use3, split, join, pick, learn, check, fsplit, fjoin, feqI, suffices, frame, await, updating, now as at-once, done}
+use types.Kit.{Given, Item, ‵, raw, _⊛_, some, later, given, ⋆, runs, anyQ, atRet, Sq, _$_, _∵_, !, qed, by, move, keep, use1, use2, use3, split, join, pick, learn, check, fsplit, fjoin, feqI, suffices, frame, await, updating, now as at-once, done}
 use types.Tokens.{lft-new, lft-end}
 use types.Run.{look, store, init, forget, stop, hop, from, load, lit, unit-lit, of-opd, bin, addr, and-then, no-more, assigns, assigns-last, land, first, skips, jumps, blocks, branches, returns, enter, alloc1, alloc0, params1, pass1, pass0, free1, free0, exec, Below, again, loops}
 use denote.Exit.{yes}
@@ -41,7 +41,7 @@ use denote.Triple.Entry.{Vals, onEntry}
 use denote.Triple.Spec.{Meets, tripleOf}
 use denote.Triple.Table.{entered, cited}
 use denote.Triple.Walked.{says, Stays, stay-ref, stay-none, walkOf, Walks, ends-at, walked, goes-ref, goes-none, walk-meets}
-use Rattle.bench.specs.History.{after, ticks}
+use Rattle.bench.specs.History.{after}
 use Rattle.bench.specs.Step.{tick as tickStep}
 use Rattle.bench.specs.declared.Bench.{Bench}
 use Rattle.lentbench.specs.Lent.{LentTick, ticksFor}

@@ -37,10 +37,10 @@ use denote.Triple.Spec.{Meets, tripleOf}
 use denote.Triple.Table.{entered, cited}
 use denote.Triple.Walked.{says, Stays, stay-ref, walkOf, AllGo, goes-ref, Walks, ends-at, walked, walk-meets}
 use denote.Triple.Clauses.{ensured, lasts}
-use Rattle.bench.specs.Step.{Step as Stepped, tick as tickStep, tickedOf}
+use Rattle.bench.specs.Step.{tick as tickStep, tickedOf}
 use Rattle.bench.specs.declared.Bench.{Bench}
 use Rattle.bench.specs.declared.Ticked.{Ticked}
-use Rattle.lentbench.specs.Lent.{LentTick, tickAnswerOf}
+use Rattle.lentbench.specs.Lent.{LentTick}
 use Rattle.lentbench.specs.declared.TickAnswer.{TickAnswer}
 use Rattle.bench.proofs.Bench as T
 use Rattle.bench.proofs.Bench.Laws as T′

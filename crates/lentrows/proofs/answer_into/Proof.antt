@@ -3,13 +3,12 @@ use Prim.Native.Nat.{ℕ, _≤_, _<_}
 use native.Mathlib.Omega.{arith}
 use mathlib.Core.Path.{_≡_, refl, sym, ap, _∙_}
 use mathlib.Core.List.{List, [], _++_}
-use mathlib.Core.Option.{none, some}
-use lib.ListN.{length, take, drop}
+use mathlib.Core.Option.{none}
+use lib.ListN.{length, drop}
 use Rattle.quantities.specs.Limits.{rowCapacity}
 use Rattle.quantities.specs.Table.{rowsOf}
 use Rattle.quantities.specs.Checks.{listFault, SoundList}
 use Rattle.quantities.specs.declared.Row.{Row}
-use Rattle.quantities.specs.declared.Ticks.{Ticks}
 use Rattle.quantities.specs.declared.Fault.{Fault}
 use Rattle.quantities.proofs.Checks.{checked-sound, checked-faulty}
 use Rattle.quantities.proofs.Sound.{sound-list-means}
@@ -17,7 +16,7 @@ use Rattle.quantities.proofs.Rows.{length-rows}
 use Rattle.windows.specs.Answer.{judged, judgedInto, written}
 use Rattle.windows.specs.declared.Answer.{Answer}
 use Rattle.windows.specs.declared.Answer.the-variants.{Refused}
-use Rattle.analysis.specs.Analysis.{numbers, inArray, analysisOf}
+use Rattle.analysis.specs.Analysis.{analysisOf}
 use Rattle.analysis.specs.declared.Analysis.{Analysis}
 use Rattle.lentrows.specs.Lent.{LentAnalysis, firstOf, shownBy}
 use Rattle.windows.proofs.Into.{into-faulty, into-short, into-room, few-bounds}

@@ -1,7 +1,7 @@
 -- record_on answers what stands on a part.
 use native.Mathlib.Omega.{arith}
 use mathlib.Core.Path.{_≡_, sym, ap}
-use lib.ListN.{length, getD}
+use lib.ListN.{getD}
 use Rattle.records.specs.Bytes.{field}
 use Rattle.records.specs.Records.{recordLength, wholeRecord, recordOn}
 use Rattle.records.proofs.Bytes.{field-one}

@@ -1,10 +1,8 @@
 -- put_polls stores the bytes of the polls one after the other.
-use Prim.Native.Nat.{_+_, _-_}
+use Prim.Native.Nat.{_-_}
 use native.Mathlib.Omega.{arith}
-use mathlib.Core.Path.{_≡_, refl, sym, ap, _∙_}
 use borrow.Author.Needs.{needs}
 use lib.ListN.{length-map}
-use lib.Seq.{length-sets}
 use Rattle.replay.proofs.Writes.{Writes, writes-first, writes-next, writes-last}
 use Rattle.replay.proofs.put_polls.Statement.{statement}
 use Rattle.replay.proofs.put_polls.Tie as tie

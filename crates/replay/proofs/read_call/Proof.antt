@@ -1,6 +1,6 @@
 -- read_call answers the call in the six bytes from a place on.
 use native.Mathlib.Omega.{arith}
-use mathlib.Core.Path.{_≡_, sym, ap}
+use mathlib.Core.Path.{sym, ap}
 use lib.ListN.{drop, length-drop}
 use Rattle.replay.specs.Format.{readOf}
 use Rattle.replay.proofs.Format.{request-short, request-tick, request-release, request-unknown}

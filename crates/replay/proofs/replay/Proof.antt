@@ -1,5 +1,5 @@
 -- replay opens the bench, and answers the calls where it opens.
-use mathlib.Core.Path.{_≡_, sym, ap, _∙_}
+use mathlib.Core.Path.{sym, ap, _∙_}
 use borrow.Author.Needs.{needs}
 use Rattle.replay.proofs.Calls.{replay-not-opened, replay-opened}
 use Rattle.replay.proofs.replay.Statement.{statement}

@@ -7,7 +7,6 @@ use borrow.Author.Needs.{needs}
 use lib.ListN.{length, drop, length-map}
 use Rattle.quantities.specs.Limits.{rowCapacity}
 use Rattle.sheet.specs.Entries.{entriesOf, tableWith, tableOf}
-use Rattle.sheet.specs.declared.Sheet.{Sheet}
 use Rattle.sheet.proofs.Entries.{entries-from, entries-end, entries-room}
 use Rattle.sheet.proofs.Sheet.table.Statement.{statement}
 use Rattle.sheet.proofs.Sheet.table.Tie as tie

@@ -2,14 +2,13 @@
 use Prim.Native.Nat.{_-_, _≤_}
 use native.Mathlib.Numerals.{add-one}
 use native.Mathlib.Omega.{arith}
-use mathlib.Core.Path.{_≡_, refl, ap, _∙_}
+use mathlib.Core.Path.{_≡_, refl, _∙_}
 use mathlib.Core.Logic.{⊎-elim}
 use borrow.Author.Needs.{needs}
 use borrow.Author.Tests.{lt-ltb, le-ltb}
 use lib.ListN.{length, length-map, length-set}
 use Rattle.quantities.specs.Limits.{rowCapacity}
 use Rattle.sheet.specs.Entries.{entriesOf, withEntry}
-use Rattle.sheet.specs.declared.Sheet.{Sheet}
 use Rattle.sheet.proofs.Entries.{passing, passing-stays, passing-goes, passing-end, passing-start}
 use Rattle.sheet.proofs.Sheet.with_entry.Statement.{statement}
 use Rattle.sheet.proofs.Sheet.with_entry.Tie as tie
