@@ -49,12 +49,6 @@ module _ (part rest : List ℕ) where
       let long : 4 ≤ length (part ++ rest) = omega (arith, length-append part rest) in
       on-board (part ++ rest) (kind-front (omega arith) ∙ one .of-kind) long ∙ rw (field-front 1 1 (omega arith), field-front 2 2 (omega arith))
 
-  pub row-front : OneRecord rowKind part → recordOn (part ++ rest) ≡ Row (rowFields part)
-  row-front one =
-      let l : length part ≡ 17 = one .in-full ∙ length-row in
-      let long : 17 ≤ length (part ++ rest) = omega (arith, length-append part rest) in
-      on-row (part ++ rest) (kind-front (omega arith) ∙ one .of-kind) long ∙ ap Row (fields-front (omega arith))
-
 pub end-alone : (part : List ℕ) → OneRecord endKind part → recordOn part ≡ End (field 1 1 part)
 end-alone part one =
     let l : length part ≡ 2 = one .in-full ∙ length-end in

@@ -2,10 +2,11 @@
 use Prim.Native.Nat.{ℕ, _≤_, _<_}
 use native.Mathlib.Omega.{arith}
 use mathlib.Core.Path.{_≡_, refl, sym, _∙_}
-use mathlib.Core.Bool.{Bool, true, false, _||_}
+use mathlib.Core.Bool.{Bool, true, false}
 use mathlib.Core.List.{List, [], _∷_}
 use lib.Dec.{eqb, ltb}
 use borrow.Author.Tests.{eq-eqb, ne-eqb, le-ltb, lt-leb, eqb-true, eqb-false, leb-false, ltb-false, not-false}
+use Rattle.laws.proofs.Tests.{or-false}
 use Rattle.quantities.specs.Limits.{rowCapacity}
 use Rattle.quantities.specs.Checks.{Check, check, firstFailing}
 use Rattle.quantities.specs.declared.Micros.{Micros}
@@ -104,10 +105,6 @@ sound-first number place fails rest s = go fails refl
     go true e = absurd (sound-not-refused number place (sym (verdict-fails number place fails rest e) ∙ s))
     go false e = (e, sym (verdict-passes number place fails rest e) ∙ s)
 
-neither : (a b : Bool) → (a || b) ≡ false → (a ≡ false) × (b ≡ false)
-neither true b e = absurd (let z : _≡_ {A = ℕ} 0 1 = cc in omega arith)
-neither false b e = (refl, e)
-
 -- a row record is sound exactly where there is room for it, its priority is 1 to 999, and no row has it
 pub record SoundRow (sheet : Sheet) (priority : ℕ) : Type 0 where
   pub room : sheet .count < rowCapacity
@@ -126,7 +123,7 @@ sound-row at sheet priority s =
     let a = sound-first 14 at _ _ s in
     let b = sound-first 16 at _ _ (a .1) in
     let c = sound-first 15 at _ _ (b .1) in
-    let n = neither (eqb priority 0) (ltb topPriority priority) (b .0) in
+    let n = or-false (eqb priority 0) (ltb topPriority priority) (b .0) in
     let z = eqb-false priority 0 (n .0) in
     record {
       room = leb-false rowCapacity (sheet .count) (a .0);
