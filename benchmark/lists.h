@@ -22,7 +22,7 @@ struct list loaded_list(uint64_t seed, size_t count, uint32_t cores, uint64_t th
 /* The same rows with the largest load, in thousandths, at which the plain C engine shows every row. */
 struct list fullest_list(uint64_t seed, size_t count, uint32_t cores);
 
-/* The slow lists: those named in the order, and lists of 32 rows built like them. */
+/* Lists on which a search by single steps is slow: rows that work half their gap, and lists of 32 rows built like them. */
 struct list slow_list(size_t index, const char **name);
 
 double larger_of(double a, double b);

@@ -33,7 +33,7 @@ FIRST = "cores 2 tick 100 rows 3\n1 101 2 5\n2 102 3 8\n"
 FULL = "".join(f"{i} {i} {1 if i <= 16 else 2} 1000000\n" for i in range(1, 33))
 
 CASES = [
-    # the sheet of document 01, and with D 3 in its last row; every byte of it, and then nothing
+    # the sheet of document 01, with D 3 in its last row, and without its last byte
     (document(400), FIRST + "3 110 4 4\nall shown\n"),
     (document(399), FIRST + "not shown 3 110\n"),
     (document(400)[:-1], "refused 11 55\n"),

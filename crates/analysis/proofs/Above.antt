@@ -13,18 +13,18 @@ use Rattle.quantities.specs.declared.Table.{Table}
 use Rattle.quantities.specs.declared.Ticks.{Ticks}
 use Rattle.quantities.proofs.Rows.{row-at}
 use Rattle.windows.specs.Choice.{Bounded, bounded}
-use Rattle.windows.specs.Judgement.{aboveAt, rowAt}
+use Rattle.windows.specs.Judgement.{aboveIndex, rowOfIndex}
 use Rattle.analysis.specs.Analysis.{ticks, numbers}
 use Rattle.analysis.specs.Engine.{above}
 
 -- there are as many rows above an index as it says
-pub length-above : (rows : List Row) (bounds : List ℕ) (k : ℕ) → length (aboveAt rows bounds k) ≡ k
+pub length-above : (rows : List Row) (bounds : List ℕ) (k : ℕ) → length (aboveIndex rows bounds k) ≡ k
 length-above rows bounds zero = refl
 length-above rows bounds (suc k) = ap suc (length-above rows bounds k)
 
 -- what holds of each row above an index holds of one of them
 pub each-above : (P : Bounded → Type 0) (rows : List Row) (bounds : List ℕ) (k i : ℕ) → i < k
-    → Each P (aboveAt rows bounds k) → P (bounded (rowAt rows i) (getD bounds i 0))
+    → Each P (aboveIndex rows bounds k) → P (bounded (rowOfIndex rows i) (getD bounds i 0))
 each-above P rows bounds zero i h each = absurd (omega arith)
 each-above P rows bounds (suc k) i h each =
     elim (ℕ-discrete i k) [
@@ -34,7 +34,7 @@ each-above P rows bounds (suc k) i h each =
 
 -- and of the first of them
 pub fewer-above : (P : Bounded → Type 0) (rows : List Row) (bounds : List ℕ) (k i : ℕ) → i ≤ k
-    → Each P (aboveAt rows bounds k) → Each P (aboveAt rows bounds i)
+    → Each P (aboveIndex rows bounds k) → Each P (aboveIndex rows bounds i)
 fewer-above P rows bounds zero i h each = let none : i ≡ 0 = omega arith in rw none tt
 fewer-above P rows bounds (suc k) i h each =
     elim (ℕ-discrete i (suc k)) [
@@ -48,7 +48,7 @@ entry table bounds i = bounded (getD (table .rows) i noRow) (getD bounds i (tick
 
 -- the row that the engine reads with its bound is the next of those above
 pub entry-above : (table : Table) (bounds : List Ticks) (i : ℕ) → i < table .count
-    → entry table bounds i ≡ bounded (rowAt (rowsOf table) i) (getD (numbers bounds) i 0)
+    → entry table bounds i ≡ bounded (rowOfIndex (rowsOf table) i) (getD (numbers bounds) i 0)
 entry-above table bounds i h =
     rw (row-at table i h, List·getD-map (λ (t : Ticks). t .0) bounds i (ticks 0)) refl
 

@@ -20,7 +20,7 @@ use Rattle.quantities.proofs.Rows.{length-rows, rows-end}
 use Rattle.windows.specs.Choice.{Bounded, bounded, InRange}
 use Rattle.windows.specs.Bound.{boundOf, boundsBelow}
 use Rattle.windows.specs.Answer.{verdict}
-use Rattle.windows.specs.Judgement.{rowAt, aboveAt}
+use Rattle.windows.specs.Judgement.{rowOfIndex, aboveIndex}
 use Rattle.windows.specs.declared.Answer.the-variants.{Shown, NotShown}
 use Rattle.windows.proofs.Bound.{bound-in-range, bounds-on, bounds-stop, bounds-end}
 use Rattle.windows.proofs.Judgement.{verdict-all, verdict-short}
@@ -46,7 +46,7 @@ so-far-start cores table few =
     record { few = few; within = omega arith; long = refl; blank = refl; whole = refl; range = tt }
 
 -- a bound written at index i leaves the rows above it as they were
-above-kept : (rows : List Row) (bounds : List ℕ) (k i b : ℕ) → k ≤ i → aboveAt rows (set bounds i b) k ≡ aboveAt rows bounds k
+above-kept : (rows : List Row) (bounds : List ℕ) (k i b : ℕ) → k ≤ i → aboveIndex rows (set bounds i b) k ≡ aboveIndex rows bounds k
 above-kept rows bounds zero i b h = refl
 above-kept rows bounds (suc k) i b h =
     rw (getD-set-other bounds i k b 0 (λ same. omega arith), above-kept rows bounds k i b (omega arith)) refl
@@ -85,19 +85,19 @@ module _ (cores : ℕ) (table : Table) (bounds : List Ticks) (i : ℕ)
 
   module _ (h : i < table .count) where
     -- the rows from index i on
-    from : drop i (rowsOf table) ≡ rowAt (rowsOf table) i ∷ drop (suc i) (rowsOf table)
+    from : drop i (rowsOf table) ≡ rowOfIndex (rowsOf table) i ∷ drop (suc i) (rowsOf table)
     from = drop-cons (rowsOf table) i noRow (omega (arith, length-rows table))
 
     -- the rows above the next index, when a bound is written
     above-next : (x : ℕ)
-        → above table (set bounds i (ticks x)) (suc i) ≡ bounded (rowAt (rowsOf table) i) x ∷ above table bounds i
+        → above table (set bounds i (ticks x)) (suc i) ≡ bounded (rowOfIndex (rowsOf table) i) x ∷ above table bounds i
     above-next x =
         let inside : i < length (numbers bounds) = omega (arith, length-map bounds (λ (t : Ticks). t .0)) in
         rw (map-set (λ (t : Ticks). t .0) bounds i (ticks x), getD-set-same (numbers bounds) i x 0 inside, above-kept (rowsOf table) (numbers bounds) i i x (le-refl i)) refl
 
     -- the row at index i has a bound
-    pub so-far-next : (x : ℕ) → SoundRow (rowAt (rowsOf table) i)
-        → boundOf cores (above table bounds i) (rowAt (rowsOf table) i) ≡ some x
+    pub so-far-next : (x : ℕ) → SoundRow (rowOfIndex (rowsOf table) i)
+        → boundOf cores (above table bounds i) (rowOfIndex (rowsOf table) i) ≡ some x
         → SoFar cores table (set bounds i (ticks x)) (suc i)
     so-far-next x sound is =
         record {
@@ -117,7 +117,7 @@ module _ (cores : ℕ) (table : Table) (bounds : List Ticks) (i : ℕ)
         }
       where
         row : Row
-        row = rowAt (rowsOf table) i
+        row = rowOfIndex (rowsOf table) i
 
         rest : List Row
         rest = drop (suc i) (rowsOf table)
@@ -131,11 +131,11 @@ module _ (cores : ℕ) (table : Table) (bounds : List Ticks) (i : ℕ)
             ∙ take-suc-set (numbers bounds) i x (omega (arith, length-map bounds (λ (t : Ticks). t .0)))
 
     -- it has none
-    pub so-far-stop : boundOf cores (above table bounds i) (rowAt (rowsOf table) i) ≡ none
+    pub so-far-stop : boundOf cores (above table bounds i) (rowOfIndex (rowsOf table) i) ≡ none
         → record { answer = NotShown (suc i); bounds = bounds } ≡ analysisOf (verdict (table .count) (boundsBelow cores [] (rowsOf table)))
     unfolding analysisOf
     so-far-stop is =
-        let (all, long, held) = ended (rw from (bounds-stop cores (above table bounds i) (rowAt (rowsOf table) i) (drop (suc i) (rowsOf table)) is)) in
+        let (all, long, held) = ended (rw from (bounds-stop cores (above table bounds i) (rowOfIndex (rowsOf table) i) (drop (suc i) (rowsOf table)) is)) in
         rw (verdict-short (table .count) (boundsBelow cores [] (rowsOf table)) (λ e. omega (arith, long)), ← held, long) refl
 
 -- what the code's answer for one row says of its bound

@@ -12,14 +12,14 @@ use Rattle.quantities.specs.declared.Table.{Table}
 use Rattle.quantities.specs.declared.Ticks.{Ticks}
 use Rattle.windows.specs.Choice.{Bounded, InRange, load, loads, most}
 use Rattle.windows.specs.Jump.{room, rooms, stride}
-use Rattle.windows.specs.Judgement.{aboveAt}
+use Rattle.windows.specs.Judgement.{aboveIndex}
 use Rattle.analysis.specs.Analysis.{numbers, ticks}
 use Rattle.analysis.specs.declared.Found.{Found}
 use Rattle.analysis.specs.declared.Found.the-variants.{At, Nothing}
 
 -- the rows of a table above index k, with the bounds found so far, the nearest first
 abbrev pub above : Table → List Ticks → ℕ → List Bounded
-above table bounds k = aboveAt (rowsOf table) (numbers bounds) k
+above table bounds k = aboveIndex (rowsOf table) (numbers bounds) k
 
 -- The cores and the count pass the checks, and the rows above index k have bounds in range.
 pub record Ready (cores : ℕ) (table : Table) (bounds : List Ticks) (k : ℕ) : Type 0 where

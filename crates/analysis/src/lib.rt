@@ -10,7 +10,7 @@ ghost use mathlib.Core.List.{[]};
 ghost use Rattle.quantities.specs.Checks.{SoundList};
 ghost use Rattle.windows.specs.Bound.{boundOf, boundsBelow};
 ghost use Rattle.windows.specs.Answer.{judged, verdict};
-ghost use Rattle.windows.specs.Judgement.{rowAt};
+ghost use Rattle.windows.specs.Judgement.{rowOfIndex};
 ghost use Rattle.analysis.specs.Analysis.{analysisOf};
 ghost use Rattle.analysis.specs.Engine.{Ready, CanRaise, Raised, CanLoad, LoadIs, TakenIs, above, countWith, leastWith, foundOf};
 use quantities::Checked;
@@ -181,7 +181,7 @@ fn taken_above(
 // The bound of the row with index k, when the rows above it have theirs: the least window from C to D that passes.
 fn bound_of(cores: u32, table: Table, bounds: [Ticks; Table::ROW_CAPACITY], k: usize) -> Found
     requires { ⌜ Ready cores table bounds k × (k < table .count) ⌝ }
-    ensures { λ r. ⌜ r ≡ foundOf (boundOf cores (above table bounds k) (rowAt (rowsOf table) k)) ⌝ }
+    ensures { λ r. ⌜ r ≡ foundOf (boundOf cores (above table bounds k) (rowOfIndex (rowsOf table) k)) ⌝ }
 {
     let row = table.rows[k];
     let own = row.c;

@@ -18,7 +18,9 @@ use Rattle.bench.specs.Step.{fresh, unless, served, moved, taken, tick}
 use Rattle.bench.specs.History.{ticks}
 use Rattle.bench.specs.TickRule.{Gets, PollEnds}
 use Rattle.bench.specs.Rules.{callTests, checkOf, callChecks, Permitted, TicksByRule}
-use Rattle.bench.specs.Fakes.{idled, once, invented, inventing, FakesCaught}
+use Rattle.bench.specs.Fakes.{idled, once, invented, inventing, FakesCaught, NoOtherTick}
+use Rattle.bench.proofs.Rules.{ticks-by-rule}
+use Rattle.bench.proofs.OneStep.{one-tick}
 
 -- one core, and one row that was released with one unit of work at instant 1, the present one
 abbrev board : Table
@@ -77,3 +79,7 @@ inventing-caught rule = differ (rw two-said at (rule b refl may .listed (poll 1)
 
 pub fakes-caught : FakesCaught
 fakes-caught = (once-caught, inventing-caught)
+
+pub no-other-tick : NoOtherTick
+no-other-tick run c full may differs rule =
+    differs (one-tick c (run c) (tick c) (rule c full may) (ticks-by-rule c full may))

@@ -1,10 +1,10 @@
 -- The rules of specs/Rules.antt, each proved under its name.
 use Prim.Native.Nat.{ℕ, _-_}
 use native.Mathlib.Omega.{arith}
-use mathlib.Core.Path.{_≡_, refl, ap, _∙_}
+use mathlib.Core.Path.{_≡_, refl, sym, ap, _∙_}
 use mathlib.Core.Bool.{Bool, true, false}
 use mathlib.Core.List.{List, [], _∷_, map}
-use mathlib.Core.Option.{none, some}
+use mathlib.Core.Option.{Option, none, some}
 use lib.ListN.{length, length-set}
 use borrow.Author.Tests.{ne-eqb, le-ltb}
 use Rattle.laws.specs.Each.{Each}
@@ -13,9 +13,9 @@ use Rattle.quantities.specs.Limits.{rowCapacity}
 use Rattle.quantities.specs.Row.{cost, gap}
 use Rattle.quantities.specs.Table.{rowsOf}
 use Rattle.quantities.specs.Checks.{Check, firstFailing, listChecks, listFault, checkedOf}
-use Rattle.quantities.specs.Paper.{paper, paperOf as checkedPaper}
+use Rattle.quantities.specs.Paper.{paper, paperOf as checkedPaper, FirstOf}
 use Rattle.quantities.proofs.Rows.{length-rows}
-use Rattle.quantities.proofs.Sound.{first-found, sound-list-means}
+use Rattle.quantities.proofs.Sound.{none-fails, first-failing, first-found, sound-list-means}
 use Rattle.quantities.proofs.Paper.{turned-away}
 use Rattle.bench.specs.declared.Bench.{Bench}
 use Rattle.bench.specs.declared.Refusal.{Refusal}
@@ -27,7 +27,7 @@ use Rattle.bench.specs.Step.{emptyBench, openedAfter, opened, benchOr, o
 use Rattle.bench.specs.Step.{Step, fresh, started, release, taken, tick}
 use Rattle.bench.specs.History.{Call, releases, ticks, doCall, after}
 use Rattle.bench.specs.Rules.{callTests, checkOf, callChecks, Permitted, ReleaseChecks, TickChecks}
-use Rattle.bench.specs.Rules.{CallTurnedAway, CallTaken, RefusedUnchanged}
+use Rattle.bench.specs.Rules.{CallTurnedAway, CallTaken, RefusedCallHasFault, RefusedUnchanged}
 use Rattle.bench.specs.Rules.{FaultyTableNotOpened, SoundTableOpened, OpenedHolds}
 use Rattle.bench.specs.Rules.{ReleasesByRule, TicksByRule}
 use Rattle.bench.specs.Rules.{Ready, ExactGapPermitted, FirstReleasePermitted}
@@ -105,6 +105,20 @@ unfolding callTests taken
 call-taken b (releases place demand) p =
     ap (λ (s : Step). s .outcome) (release-taken b place demand (permitted b (releases place demand) p))
 call-taken b ticks p = ap (λ (s : Step). s .outcome) (tick-taken b (permitted b ticks p))
+
+pub refused-call-has-fault : RefusedCallHasFault
+unfolding paperOf
+refused-call-has-fault b call why e = go (firstFailing (callChecks b call)) refl
+  where
+    go : (found : Option Check) → firstFailing (callChecks b call) ≡ found
+        → FirstOf (callChecks b call) (refusalPaper why)
+    go none q =
+        let taken = call-taken b call (none-fails (callChecks b call) q) in
+        let z : _≡_ {A = ℕ} 0 1 = cc (sym taken ∙ e) in
+        absurd (omega arith)
+    go (some one) q =
+        let first = first-failing (callChecks b call) one q in
+        record { one = one; first = first; is = sym (ap paperOf e) ∙ call-turned-away b call one first .on-paper }
 
 pub refused-unchanged : RefusedUnchanged
 refused-unchanged b call why e = rw (refused-same b call why e) (refl, refl)

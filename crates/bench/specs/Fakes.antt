@@ -1,11 +1,15 @@
 -- Fake benches of document 01, which the tick rule has to catch.
 use Prim.Native.Nat.{ℕ, zero, suc}
+use mathlib.Core.Path.{_≡_}
 use mathlib.Core.List.{[], map}
+use lib.ListN.{length}
+use Rattle.quantities.specs.Limits.{rowCapacity}
 use Rattle.bench.specs.declared.Bench.{Bench}
 use Rattle.bench.specs.declared.Finish.{Finish}
 use Rattle.bench.specs.declared.Outcome.the-variants.{Taken}
 use Rattle.bench.specs.Step.{Step, tick}
-use Rattle.bench.specs.Rules.{TicksByRule}
+use Rattle.bench.specs.History.{ticks}
+use Rattle.bench.specs.Rules.{Permitted, TicksByRule}
 
 -- the bench one instant later, with no row served
 unfoldable pub idled : Bench → Step
@@ -39,6 +43,12 @@ inventing b =
       bench = step .bench;
     }
 
--- The rule holds for neither.
+-- The rule holds for neither,
 abbrev pub FakesCaught : Type 0
 FakesCaught = (TicksByRule once → ⊥) × (TicksByRule inventing → ⊥)
+
+-- nor for any other function that ticks in another way than ours, on a bench where a tick is permitted.
+abbrev pub NoOtherTick : Type 0
+NoOtherTick =
+    (run : Bench → Step) (b : Bench)
+    → length (b .states) ≡ rowCapacity → Permitted b ticks → (run b ≡ tick b → ⊥) → TicksByRule run → ⊥

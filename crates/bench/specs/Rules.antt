@@ -11,7 +11,7 @@ use Rattle.quantities.specs.Limits.{rowCapacity}
 use Rattle.quantities.specs.Row.{cost, gap}
 use Rattle.quantities.specs.Table.{rowsOf}
 use Rattle.quantities.specs.Checks.{Check, check, FirstFailing, listChecks, SoundList}
-use Rattle.quantities.specs.Paper.{paper, paperOf as checkedPaper}
+use Rattle.quantities.specs.Paper.{paper, paperOf as checkedPaper, FirstOf}
 use Rattle.quantities.specs.declared.Instant.{Instant}
 use Rattle.quantities.specs.declared.Table.{Table}
 use Rattle.quantities.specs.declared.Checked.the-variants.{Sound}
@@ -72,6 +72,12 @@ CallTurnedAway =
 
 abbrev pub CallTaken : Type 0
 CallTaken = (b : Bench) (call : Call) → Permitted b call → doCall b call .outcome ≡ Taken
+
+-- And a call that is refused fails the check that has its number and place, and none before it.
+abbrev pub RefusedCallHasFault : Type 0
+RefusedCallHasFault =
+    (b : Bench) (call : Call) (why : Refusal)
+    → doCall b call .outcome ≡ Refused why → FirstOf (callChecks b call) (refusalPaper why)
 
 -- A refused bench call changes nothing on the bench.
 abbrev pub RefusedUnchanged : Type 0

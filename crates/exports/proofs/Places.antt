@@ -23,7 +23,7 @@ use Rattle.quantities.specs.Paper.{faultPaper}
 use Rattle.windows.specs.Answer.{verdict, judgedAfter, judgedInto, paperOf}
 use Rattle.windows.specs.declared.Answer.the-variants.{Refused}
 use Rattle.windows.proofs.Judgement.{verdict-all, verdict-short}
-use Rattle.windows.specs.Judgement.{rowAt}
+use Rattle.windows.specs.Judgement.{rowOfIndex}
 use Rattle.lentrows.specs.Loaded.{loaded}
 
 -- checks that speak of places up to n
@@ -103,7 +103,7 @@ into-place cores entries rows = go (lentFault cores entries rows) refl
 pub loaded-count : (n : ℕ) (rows : List Row) → loaded n rows .count ≤ suc rowCapacity
 unfolding loaded emptyTable withRow
 loaded-count zero rows = omega arith
-loaded-count (suc n) rows = go (loaded n rows) (rowAt rows n)
+loaded-count (suc n) rows = go (loaded n rows) (rowOfIndex rows n)
   where
     go : (table : Table) (row : Row) → withRow table row .count ≤ suc rowCapacity
     go table row =

@@ -18,7 +18,7 @@ use Rattle.quantities.specs.declared.Fault.the-variants.{WholeList}
 use Rattle.quantities.proofs.Checks.{list-fault-many-rows}
 use Rattle.quantities.proofs.Rows.{length-rows}
 use Rattle.windows.specs.Answer.{judgedInto}
-use Rattle.windows.specs.Judgement.{rowAt}
+use Rattle.windows.specs.Judgement.{rowOfIndex}
 use Rattle.lentrows.specs.Loaded.{loaded, tableOf}
 use Rattle.windows.proofs.Into.{into-faulty}
 
@@ -44,19 +44,19 @@ module _ (rows : List Row) where
   holds-none = record { counts = refl; long = length-replicate rowCapacity noRow; kept = refl }
 
   holds-next : (n : ℕ) (table : Table) → n < rowCapacity → n < length rows → Holds rows n table
-      → Holds rows (suc n) (withRow table (rowAt rows n))
+      → Holds rows (suc n) (withRow table (rowOfIndex rows n))
   holds-next n table few h held =
-      rw (with-row-fits table (rowAt rows n) (omega (arith, held .counts)), held .counts)
+      rw (with-row-fits table (rowOfIndex rows n) (omega (arith, held .counts)), held .counts)
       (record {
         counts = omega arith;
-        long = length-set (table .rows) n (rowAt rows n) ∙ held .long;
+        long = length-set (table .rows) n (rowOfIndex rows n) ∙ held .long;
         kept = kept-next;
       })
     where
-      kept-next : take (suc n) (set (table .rows) n (rowAt rows n)) ≡ take (suc n) rows
+      kept-next : take (suc n) (set (table .rows) n (rowOfIndex rows n)) ≡ take (suc n) rows
       kept-next =
           let inside : n < length (table .rows) = omega (arith, held .long) in
-          rw (take-suc-set (table .rows) n (rowAt rows n) inside, take-suc rows n noRow h, held .kept) refl
+          rw (take-suc-set (table .rows) n (rowOfIndex rows n) inside, take-suc rows n noRow h, held .kept) refl
 
   -- as long as the rows fit, the table holds those loaded
   holds-loaded : (n : ℕ) → n ≤ rowCapacity → n ≤ length rows → Holds rows n (loaded n rows)
@@ -69,7 +69,7 @@ module _ (rows : List Row) where
   full-loaded : (n : ℕ) → rowCapacity < n → n ≤ length rows → loaded n rows .count ≡ suc rowCapacity
   unfolding loaded
   full-loaded zero few h = absurd (omega arith)
-  full-loaded (suc n) few h = with-row-full (loaded n rows) (rowAt rows n) (full (decLe n rowCapacity) (full-loaded n))
+  full-loaded (suc n) few h = with-row-full (loaded n rows) (rowOfIndex rows n) (full (decLe n rowCapacity) (full-loaded n))
     where
       full : Dec (n ≤ rowCapacity) → (rowCapacity < n → n ≤ length rows → loaded n rows .count ≡ suc rowCapacity)
           → rowCapacity ≤ loaded n rows .count

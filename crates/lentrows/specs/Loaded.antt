@@ -5,12 +5,12 @@ use lib.ListN.{length}
 use Rattle.quantities.specs.Table.{emptyTable, withRow}
 use Rattle.quantities.specs.declared.Row.{Row}
 use Rattle.quantities.specs.declared.Table.{Table}
-use Rattle.windows.specs.Judgement.{rowAt}
+use Rattle.windows.specs.Judgement.{rowOfIndex}
 
 -- the table of the first k rows
 unfoldable pub loaded : ℕ → List Row → Table
 loaded zero rows = emptyTable
-loaded (suc k) rows = withRow (loaded k rows) (rowAt rows k)
+loaded (suc k) rows = withRow (loaded k rows) (rowOfIndex rows k)
 
 -- the table of all rows of the list
 abbrev pub tableOf : List Row → Table

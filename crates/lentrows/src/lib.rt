@@ -5,7 +5,7 @@ ghost use lib.ListN.{length};
 ghost use Rattle.quantities.specs.Limits.{rowCapacity};
 ghost use Rattle.quantities.specs.Table.{rowsOf};
 ghost use Rattle.windows.specs.Answer.{judgedInto};
-ghost use Rattle.windows.specs.Judgement.{rowAt};
+ghost use Rattle.windows.specs.Judgement.{rowOfIndex};
 ghost use Rattle.lentrows.specs.Loaded.{loaded};
 ghost use Rattle.lentrows.specs.Lent.{LentAnalysis, firstOf, shownBy};
 use quantities::Checked;
@@ -18,7 +18,7 @@ use windows::Answer;
 // The row with index i of a lent list.
 fn row_at(rows: &[Row], i: usize) -> Row
     requires { ⌜ i < length (now rows) ⌝ }
-    ensures { λ r. ⌜ r ≡ rowAt (now (rows .entry)) i ⌝ }
+    ensures { λ r. ⌜ r ≡ rowOfIndex (now (rows .entry)) i ⌝ }
 {
     rows[i]
 }

@@ -3,7 +3,7 @@ use Prim.Native.Nat.{ℕ, _+_, _≤_, _<_}
 use native.Mathlib.Omega.{arith}
 use native.Mathlib.Nat.{add-assoc}
 use native.Mathlib.Numerals.{add-one}
-use mathlib.Core.Path.{_≡_, ap, _∙_}
+use mathlib.Core.Path.{_≡_, sym, ap, _∙_}
 use mathlib.Core.List.{List, [], _∷_, _++_, append-assoc, append-nil}
 use lib.ListN.{length, getD, take, drop, set, length-append, length-drop, take-append-drop}
 use lib.Seq.{append-snoc, length-take-le, take-suc, take-at, drop-append-add, drop-drop, set-split}
@@ -69,3 +69,8 @@ pub puts-word : (b : List ℕ) (at : ℕ) (word c : List ℕ) (i : ℕ) → at +
     → Puts b at (take i word) c (at + i) → Puts b at (take (i + 1) word) (set c (at + i) (getD word i 0)) (at + (i + 1))
 puts-word b at word c i room h p =
     rw (add-one i, take-suc word i 0 h, ← add-one i, ← add-assoc) (puts-more (getD word i 0) p (omega arith))
+
+-- One outcome: any two that meet the statement are equal.
+pub one-put : (buffer : List ℕ) (at : ℕ) (bytes after after′ : List ℕ) (next next′ : ℕ)
+    → Puts buffer at bytes after next → Puts buffer at bytes after′ next′ → (after ≡ after′) × (next ≡ next′)
+one-put buffer at bytes after after′ next next′ a b = (a .lies ∙ sym (b .lies), a .ends ∙ sym (b .ends))

@@ -19,7 +19,7 @@ use Rattle.bench.specs.Record.{lastInstant}
 use Rattle.bench.specs.History.{ticks, after}
 use Rattle.bench.proofs.Record.{whole-unbroken}
 use Rattle.bench.proofs.Kept.{kept-opened, kept-after}
-use Rattle.bench.proofs.Rules.{release-checks, tick-checks, call-turned-away, call-taken, refused-unchanged, faulty-table-not-opened, sound-table-opened}
+use Rattle.bench.proofs.Rules.{release-checks, tick-checks, call-turned-away, call-taken, refused-call-has-fault, refused-unchanged, faulty-table-not-opened, sound-table-opened}
 use Rattle.bench.proofs.Rules.{releases-by-rule, ticks-by-rule, books-balance}
 use Rattle.running.proofs.Running.{bounds-hold}
 use Rattle.running.proofs.Below.{rows-below}
@@ -103,6 +103,7 @@ demand-1 =
       tick-checks = tick-checks;
       faulty-calls = call-turned-away;
       calls = call-taken;
+      refused-by = refused-call-has-fault;
       refused-calls = refused-unchanged;
       releases = releases-by-rule;
       ticks = ticks-by-rule;

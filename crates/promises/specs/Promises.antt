@@ -25,7 +25,7 @@ use Rattle.bench.specs.Record.{lastInstant}
 use Rattle.bench.specs.Step.{opened, tick}
 use Rattle.bench.specs.History.{Call, after}
 use Rattle.bench.specs.Rules.{FaultyTableNotOpened, SoundTableOpened, ReleaseChecks, TickChecks, CallTurnedAway, CallTaken}
-use Rattle.bench.specs.Rules.{RefusedUnchanged, ReleasesByRule, TicksByRule, BooksBalance}
+use Rattle.bench.specs.Rules.{RefusedCallHasFault, RefusedUnchanged, ReleasesByRule, TicksByRule, BooksBalance}
 use Rattle.running.specs.Running.{BoundsHold}
 use Rattle.running.specs.Below.{RowsBelow}
 use Rattle.running.specs.Replayed.{ReplayInTime}
@@ -53,6 +53,7 @@ LentListLeftAlone =
     → (paperOf (judgedInto cores (length entries) rows .answer) ≡ paper (one .number) (one .place))
     × (written (judgedInto cores (length entries) rows) entries ≡ entries)
 
+-- And a list that is refused there has that fault.
 abbrev pub RefusedLentHasFault : Type 0
 RefusedLentHasFault =
     (cores entries : ℕ) (rows : List Row) (fault : Fault) → judgedInto cores entries rows .answer ≡ Refused fault
@@ -91,6 +92,7 @@ pub record Demand1 : Type 0 where
   pub tick-checks : TickChecks
   pub faulty-calls : CallTurnedAway
   pub calls : CallTaken
+  pub refused-by : RefusedCallHasFault
   pub refused-calls : RefusedUnchanged
   pub releases : ReleasesByRule
   pub ticks : TicksByRule tick

@@ -141,3 +141,15 @@ found part =
                 ]
           ]
     ]
+
+-- nothing stands only on a part with no byte
+pub missing-empty : (part : List ℕ) → recordOn part ≡ Missing → length part ≡ 0
+missing-empty part e = go (recordOn part) (found part) e
+  where
+    go : (one : Record) → Found part one → one ≡ Missing → length part ≡ 0
+    go one (nothing none) e = none
+    go one (unknown some none) e = let z : _≡_ {A = ℕ} 0 1 = cc in absurd (omega arith)
+    go one (cut some short) e = let z : _≡_ {A = ℕ} 0 1 = cc in absurd (omega arith)
+    go one (board kind long) e = let z : _≡_ {A = ℕ} 0 1 = cc in absurd (omega arith)
+    go one (row kind long) e = let z : _≡_ {A = ℕ} 0 1 = cc in absurd (omega arith)
+    go one (end kind long) e = let z : _≡_ {A = ℕ} 0 1 = cc in absurd (omega arith)

@@ -5,11 +5,13 @@ use mathlib.Core.Path.{_≡_, refl, sym, ap, _∙_}
 use mathlib.Core.Bool.{Bool, true, false}
 use mathlib.Core.List.{List}
 use mathlib.Core.Option.{Option, none, some}
-use lib.ListN.{length}
+use lib.ListN.{length, drop, length-drop}
 use Rattle.laws.specs.Each.{Each}
 use Rattle.quantities.specs.Checks.{Check, firstFailing, FirstFailing}
 use Rattle.quantities.proofs.Sound.{none-fails, none-found, first-failing, first-found}
 use Rattle.records.specs.Records.{isEnd}
+use Rattle.records.specs.declared.Record.the-variants.{Missing}
+use Rattle.records.proofs.Records.{missing-empty}
 use Rattle.sheet.specs.Checks.{verdictOf}
 use Rattle.sheet.specs.Reader.{newReading, refused, whole, readOf}
 use Rattle.sheet.specs.Faults.{recordAt, checksAt, ReadTo, start, next, FirstFault, FaultAt}
@@ -68,6 +70,13 @@ module _ (sheet : List ℕ) where
   read-to start = reads-new sheet
   read-to (next {reading} {at} before passed last) =
       turn-on sheet reading at (read-to before) (verdict-none (checksAt sheet reading at) passed) last
+
+  -- where no byte stands, the place is the sheet's length
+  pub missing-at-end : (reading : Reading) (at : ℕ) → ReadTo sheet reading at → recordAt sheet at ≡ Missing
+      → at ≡ length sheet
+  missing-at-end reading at before e =
+      let none = missing-empty (drop at sheet) e in
+      omega (arith, read-to before .within, length-drop at sheet, none)
 
   pub first-fault-refused : (one : Check) → FirstFault sheet one
       → readOf sheet ≡ refused (one .number) (one .place)

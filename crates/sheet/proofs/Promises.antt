@@ -10,14 +10,14 @@ use Rattle.quantities.specs.declared.Micros.{Micros}
 use Rattle.sheet.specs.Entries.{sheetOf, Rising}
 use Rattle.sheet.specs.Reader.{noSheet, refused, whole, readOf, paperOf}
 use Rattle.sheet.specs.Whole.{coresOn, tickOn, MadeOf}
-use Rattle.sheet.specs.Promises.{WholeExactly, BoardAnswered, EachRowOnce, PrioritiesRise, TableInOrder, AnyOrder, NoTableRefused, FaultySheetTurnedAway, RefusedByFirstFault, AtMost550, First1024, OneOutcome}
+use Rattle.sheet.specs.Promises.{MissingAtTheEnd, WholeExactly, BoardAnswered, EachRowOnce, PrioritiesRise, TableInOrder, AnyOrder, NoTableRefused, FaultySheetTurnedAway, RefusedByFirstFault, AtMost550, First1024, OneOutcome}
 use Rattle.sheet.specs.declared.Entry.{Entry}
 use Rattle.sheet.specs.declared.Sheet.{Sheet}
 use Rattle.sheet.specs.declared.Verdict.{Verdict}
 use Rattle.sheet.specs.declared.Verdict.the-variants.{Sound, Refused}
 use Rattle.sheet.specs.declared.Outcome.{Outcome}
 use Rattle.sheet.proofs.Sheets.{board-sheet, entries-of-sheet}
-use Rattle.sheet.proofs.Faults.{first-fault-refused, refused-first-fault}
+use Rattle.sheet.proofs.Faults.{missing-at-end, first-fault-refused, refused-first-fault}
 use Rattle.sheet.proofs.Tables.{table-rows}
 use Rattle.sheet.proofs.Whole.{length-entries}
 use Rattle.sheet.proofs.Sound.{sound-made}
@@ -89,6 +89,9 @@ any-order = rows-in-any-order
 
 pub no-table-refused : NoTableRefused
 no-table-refused = refused-no-table
+
+pub missing-at-the-end : MissingAtTheEnd
+missing-at-the-end = missing-at-end
 
 pub faulty-sheet-turned-away : FaultySheetTurnedAway
 unfolding refused paperOf

@@ -9,9 +9,11 @@ use Rattle.quantities.specs.Paper.{paper}
 use Rattle.quantities.specs.Table.{rowsOf}
 use Rattle.sheet.specs.Entries.{entriesOf, tableOf, Rising}
 use Rattle.sheet.specs.Reader.{noSheet, refused, readOf, paperOf}
-use Rattle.sheet.specs.Faults.{FirstFault, FaultAt}
+use Rattle.sheet.specs.Faults.{recordAt, ReadTo, FirstFault, FaultAt}
 use Rattle.sheet.specs.Whole.{entriesOn, coresOn, tickOn, WholeSheet, bytesOf, MadeOf}
 use Rattle.sheet.specs.declared.Entry.{Entry}
+use Rattle.records.specs.declared.Record.the-variants.{Missing}
+use Rattle.sheet.specs.declared.Reading.{Reading}
 use Rattle.sheet.specs.declared.Verdict.the-variants.{Sound, Refused}
 use Rattle.sheet.specs.declared.Outcome.{Outcome}
 
@@ -62,6 +64,12 @@ abbrev pub FaultySheetTurnedAway : Type 0
 FaultySheetTurnedAway =
     (sheet : List ℕ) (one : Check) → FirstFault sheet one
     → (paperOf (readOf sheet .verdict) ≡ paper (one .number) (one .place)) × (readOf sheet .sheet ≡ noSheet)
+
+-- Where no byte stands, the place is the sheet's length.
+abbrev pub MissingAtTheEnd : Type 0
+MissingAtTheEnd =
+    (sheet : List ℕ) (reading : Reading) (at : ℕ)
+    → ReadTo sheet reading at → recordAt sheet at ≡ Missing → at ≡ length sheet
 
 -- And a sheet that is refused has that fault.
 abbrev pub RefusedByFirstFault : Type 0

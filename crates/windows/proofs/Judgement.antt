@@ -16,7 +16,7 @@ use Rattle.windows.specs.declared.Answer.the-variants.{Shown, NotShown, 
 use Rattle.windows.specs.Choice.{Bounded, bounded}
 use Rattle.windows.specs.Bound.{boundOf, IsBound, NoBound, boundsBelow}
 use Rattle.windows.specs.Answer.{Judged, verdict, judgedAfter, judged}
-use Rattle.windows.specs.Judgement.{rowAt, aboveAt, AllShown, FirstNotShown, Judgement}
+use Rattle.windows.specs.Judgement.{rowOfIndex, aboveIndex, AllShown, FirstNotShown, Judgement}
 use Rattle.windows.proofs.Least.{least-unique}
 use Rattle.windows.proofs.Bound.{window-some, window-none}
 
@@ -56,9 +56,9 @@ walk-unique {M} (on {above} {row} {rows} {b} p v) (on {b = c} {bounds = cs} q w)
 -- the rows above index k, where the rows begin below those above
 abbrev aboveOn : List Bounded → List Row → List ℕ → ℕ → List Bounded
 aboveOn above rows bounds zero = above
-aboveOn above rows bounds (suc k) = bounded (rowAt rows k) (getD bounds k 0) ∷ aboveOn above rows bounds k
+aboveOn above rows bounds (suc k) = bounded (rowOfIndex rows k) (getD bounds k 0) ∷ aboveOn above rows bounds k
 
-above-on : (rows : List Row) (bounds : List ℕ) (k : ℕ) → aboveOn [] rows bounds k ≡ aboveAt rows bounds k
+above-on : (rows : List Row) (bounds : List ℕ) (k : ℕ) → aboveOn [] rows bounds k ≡ aboveIndex rows bounds k
 above-on rows bounds zero = refl
 above-on rows bounds (suc k) = rw (above-on rows bounds k)
 
@@ -70,21 +70,21 @@ above-next above row rows b bounds (suc k) = rw (above-next above row rows b bou
 
 -- What a walk says of each row, by its index.
 abbrev LeastOn : ℕ → List Bounded → List Row → List ℕ → ℕ → Type 0
-LeastOn M above rows bounds k = IsBound M (aboveOn above rows bounds k) (rowAt rows k) (getD bounds k 0)
+LeastOn M above rows bounds k = IsBound M (aboveOn above rows bounds k) (rowOfIndex rows k) (getD bounds k 0)
 
 abbrev NoneOn : ℕ → List Bounded → List Row → List ℕ → ℕ → Type 0
-NoneOn M above rows bounds k = NoBound M (aboveOn above rows bounds k) (rowAt rows k)
+NoneOn M above rows bounds k = NoBound M (aboveOn above rows bounds k) (rowOfIndex rows k)
 
 -- what is said of a row further down is said of it from one row higher up
 module _ (M : ℕ) (above : List Bounded) (row : Row) (rows : List Row) (b : ℕ) (bounds : List ℕ) (k : ℕ) where
   none-higher : NoneOn M (bounded row b ∷ above) rows bounds k → NoneOn M above (row ∷ rows) (b ∷ bounds) (suc k)
   none-higher =
-      subst⁻¹ (λ (up : List Bounded). NoBound M up (rowAt rows k))
+      subst⁻¹ (λ (up : List Bounded). NoBound M up (rowOfIndex rows k))
       (above-next above row rows b bounds k)
 
   none-lower : NoneOn M above (row ∷ rows) (b ∷ bounds) (suc k) → NoneOn M (bounded row b ∷ above) rows bounds k
   none-lower =
-      subst (λ (up : List Bounded). NoBound M up (rowAt rows k))
+      subst (λ (up : List Bounded). NoBound M up (rowOfIndex rows k))
       (above-next above row rows b bounds k)
 
 walk-least : {M : ℕ} {above : List Bounded} {rows : List Row} {bounds : List ℕ} → Walk M above rows bounds
@@ -156,7 +156,7 @@ verdict-means M rows bounds w =
         (record {
           says = rw (ne-eqb (length bounds) (length rows) (λ e. omega arith), verdict) refl;
           stands = l;
-          none = subst (λ (up : List Bounded). NoBound M up (rowAt rows (length bounds))) (above-on rows bounds (length bounds)) n;
+          none = subst (λ (up : List Bounded). NoBound M up (rowOfIndex rows (length bounds))) (above-on rows bounds (length bounds)) n;
         })
 
 -- the answer to a faulty list is its fault, with no bounds
@@ -183,7 +183,7 @@ judgement-walk M rows j means =
     (⊎-elim (λ a. all (a .each)) (λ n. short (n .stands) (none-on n)) (means .ends))
   where
     none-on : FirstNotShown M rows j → NoneOn M [] rows (j .bounds) (length (j .bounds))
-    none-on n = subst⁻¹ (λ (up : List Bounded). NoBound M up (rowAt rows (length (j .bounds)))) (above-on rows (j .bounds) (length (j .bounds))) (n .none)
+    none-on n = subst⁻¹ (λ (up : List Bounded). NoBound M up (rowOfIndex rows (length (j .bounds)))) (above-on rows (j .bounds) (length (j .bounds))) (n .none)
 
 -- One outcome: no two answers to the same rows read as their judgement.
 pub one-judgement : (M : ℕ) (rows : List Row) (j k : Judged) → Judgement M rows j → Judgement M rows k → j ≡ k

@@ -12,13 +12,13 @@ use Rattle.windows.specs.Bound.{IsBound, NoBound}
 use Rattle.windows.specs.Answer.{Judged}
 
 -- the row with index k, counted from 0: it stands at place k + 1
-abbrev pub rowAt : List Row → ℕ → Row
-rowAt rows k = getD rows k noRow
+abbrev pub rowOfIndex : List Row → ℕ → Row
+rowOfIndex rows k = getD rows k noRow
 
 -- the rows above index k with their bounds, the nearest first
-abbrev pub aboveAt : List Row → List ℕ → ℕ → List Bounded
-aboveAt rows bounds zero = []
-aboveAt rows bounds (suc k) = bounded (rowAt rows k) (getD bounds k 0) ∷ aboveAt rows bounds k
+abbrev pub aboveIndex : List Row → List ℕ → ℕ → List Bounded
+aboveIndex rows bounds zero = []
+aboveIndex rows bounds (suc k) = bounded (rowOfIndex rows k) (getD bounds k 0) ∷ aboveIndex rows bounds k
 
 -- Every row has its bound.
 pub record AllShown (rows : List Row) (j : Judged) : Type 0 where
@@ -29,14 +29,14 @@ pub record AllShown (rows : List Row) (j : Judged) : Type 0 where
 pub record FirstNotShown (M : ℕ) (rows : List Row) (j : Judged) : Type 0 where
   pub says : j .answer ≡ NotShown (suc (length (j .bounds)))
   pub stands : length (j .bounds) < length rows
-  pub none : NoBound M (aboveAt rows (j .bounds) (length (j .bounds)))
-      (rowAt rows (length (j .bounds)))
+  pub none : NoBound M (aboveIndex rows (j .bounds) (length (j .bounds)))
+      (rowOfIndex rows (length (j .bounds)))
 
 -- The answer to rows that pass the checks: each bound is the least window from C to D that passes, and either every
 -- row has one, or the first row without is named, and it and the rows below it have none.
 pub record Judgement (M : ℕ) (rows : List Row) (j : Judged) : Type 0 where
   pub least : (k : ℕ) → k < length (j .bounds)
-      → IsBound M (aboveAt rows (j .bounds) k) (rowAt rows k) (getD (j .bounds) k 0)
+      → IsBound M (aboveIndex rows (j .bounds) k) (rowOfIndex rows k) (getD (j .bounds) k 0)
   pub ends : AllShown rows j ⊎ FirstNotShown M rows j
 
 -- Two answers are the same for places 1 to k: the same bounds, and the same place named, if one of these is.

@@ -17,7 +17,7 @@ use Rattle.windows.specs.Jump.{next, rooms, reach}
 use Rattle.windows.proofs.Least.{NoneBefore, before-start, before-on, before-least, before-none}
 use Rattle.windows.proofs.Jump.{next-means}
 use Rattle.windows.specs.Bound.{boundOf}
-use Rattle.windows.specs.Judgement.{rowAt}
+use Rattle.windows.specs.Judgement.{rowOfIndex}
 use Rattle.windows.proofs.Room.{stride-le-top}
 use Rattle.windows.proofs.Far.{reach-jumps}
 use Rattle.windows.proofs.Bound.{window-some, window-none}
@@ -68,7 +68,7 @@ module _ (cores : ℕ) (table : Table) (bounds : List Ticks) (k own x most-taken
 module _ (cores : ℕ) (table : Table) (bounds : List Ticks) (k x : ℕ) (h : k < table .count)
     (inv : In cores table bounds k (cost (getD (table .rows) k noRow)) x) where
   found : x ≤ deadline (getD (table .rows) k noRow) → Passes cores (cost (getD (table .rows) k noRow)) (above table bounds k) x
-      → At (ticks x) ≡ foundOf (boundOf cores (above table bounds k) (rowAt (rowsOf table) k))
+      → At (ticks x) ≡ foundOf (boundOf cores (above table bounds k) (rowOfIndex (rowsOf table) k))
   unfolding foundOf
   found high holds =
       let row = getD (table .rows) k noRow in
@@ -76,7 +76,7 @@ module _ (cores : ℕ) (table : Table) (bounds : List Ticks) (k x : ℕ) (h : k 
       rw (row-at table k h, is)
 
   nothing : deadline (getD (table .rows) k noRow) < x
-      → Nothing ≡ foundOf (boundOf cores (above table bounds k) (rowAt (rowsOf table) k))
+      → Nothing ≡ foundOf (boundOf cores (above table bounds k) (rowOfIndex (rowsOf table) k))
   unfolding foundOf
   nothing over =
       let row = getD (table .rows) k noRow in

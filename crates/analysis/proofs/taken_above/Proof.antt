@@ -16,7 +16,7 @@ use Rattle.quantities.specs.declared.Ticks.{Ticks}
 use Rattle.quantities.proofs.Rows.{each-row}
 use Rattle.windows.specs.Choice.{Bounded, bounded, InRange, Load, load, loads, most}
 use Rattle.windows.specs.Jump.{room, rooms, roomy, leastRoom}
-use Rattle.windows.specs.Judgement.{rowAt}
+use Rattle.windows.specs.Judgement.{rowOfIndex}
 use Rattle.windows.proofs.Room.{stride-in, stride-out}
 use Rattle.analysis.specs.Analysis.{numbers}
 use Rattle.analysis.specs.Engine.{above, raisedAt, countWith, leastWith, LoadIs, TakenIs}
@@ -47,7 +47,7 @@ module _ (cores : ℕ) (table : Table) (bounds : List Ticks) (k own x : ℕ) (mo
     (within : k ≤ table .count) (h : i < k) (inv : In cores table bounds k own x mosts count least i)
     (w c r : ℕ) (taken : LoadIs own x (entry table bounds i) w c r) where
   -- it is the next of the rows above
-  next : LoadIs own x (bounded (rowAt (rowsOf table) i) (getD (numbers bounds) i 0)) w c r
+  next : LoadIs own x (bounded (rowOfIndex (rowsOf table) i) (getD (numbers bounds) i 0)) w c r
   next = subst (λ (b : Bounded). LoadIs own x b w c r) (entry-above table bounds i (omega arith)) taken
 
   turn : (raised : List ℕ) (count′ least′ : ℕ) → length raised ≡ 16
@@ -55,7 +55,7 @@ module _ (cores : ℕ) (table : Table) (bounds : List Ticks) (k own x : ℕ) (mo
       → count′ ≡ countWith r count → least′ ≡ leastWith r least
       → In cores table bounds k own x raised count′ least′ (i + 1)
   turn raised count′ least′ long up p q =
-      let b = bounded (rowAt (rowsOf table) i) (getD (numbers bounds) i 0) in
+      let b = bounded (rowOfIndex (rowsOf table) i) (getD (numbers bounds) i 0) in
       let passed = above table bounds i in
       rw (add-one i)
       (record {
