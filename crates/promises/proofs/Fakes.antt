@@ -20,7 +20,7 @@ use Rattle.records.specs.Records.{recordLength, rowFields}
 use Rattle.sheet.specs.Entries.{ticksOf, entryOf, used}
 use Rattle.sheet.specs.Whole.{entriesOn, bytesOf, MadeOf}
 use Rattle.promises.specs.Promises.{Demand2For}
-use Rattle.promises.specs.Fakes.{Judge, Reader, TurnsEverythingAway, AnswersTheCost, WritesNoBounds, KeepsSheetOrder, FakesCaught}
+use Rattle.promises.specs.Fakes.{Judge, Reader, TurnsEverythingAway, TakesNoSheet, AnswersTheCost, WritesNoBounds, KeepsSheetOrder, FakesCaught}
 
 -- one core and two rows of document 01, of which the second has the bound 3 and the cost 2
 abbrev two : List Row
@@ -45,16 +45,12 @@ must-answer read judge demand =
     ∙ two-judged
 
 turns-away : (read : Reader) (judge : Judge) → Demand2For read judge → TurnsEverythingAway judge → ⊥
-turns-away read judge demand fake =
-    let is = ap (λ (j : Judged). j .answer) (must-answer read judge demand) in
-    let (fault, away) = fake 1 two in
-    let z : _≡_ {A = ℕ} 0 1 = cc (sym is ∙ away) in
-    omega arith
+turns-away read judge demand fake = fake 1 two (ap (λ (j : Judged). j .answer) (must-answer read judge demand))
 
 answers-cost : (read : Reader) (judge : Judge) → Demand2For read judge → AnswersTheCost judge → ⊥
 answers-cost read judge demand fake =
-    let is = ap (λ (j : Judged). j .bounds) (must-answer read judge demand) in
-    let z : _≡_ {A = ℕ} 3 2 = cc (sym is ∙ fake 1 two) in
+    let second = rw (must-answer read judge demand) at (fake 1 two 1) in
+    let same : _≡_ {A = ℕ} 3 2 = second (omega arith) in
     omega arith
 
 writes-none : (read : Reader) (judge : Judge) → Demand2For read judge → WritesNoBounds judge → ⊥
@@ -99,6 +95,9 @@ made =
           };
     }
 
+takes-none : (read : Reader) (judge : Judge) → Demand2For read judge → TakesNoSheet read → ⊥
+takes-none read judge demand fake = fake (bytesOf board rows end) (demand .taken (bytesOf board rows end) made)
+
 keeps-order : (read : Reader) (judge : Judge) → Demand2For read judge → KeepsSheetOrder read → ⊥
 unfolding field numberAfter rowFields entryOf entriesOn made
 keeps-order read judge demand fake =
@@ -108,4 +107,4 @@ keeps-order read judge demand fake =
 
 pub fakes-caught : FakesCaught
 fakes-caught =
-    record { turns-away = turns-away; answers-cost = answers-cost; writes-none = writes-none; keeps-order = keeps-order }
+    record { turns-away = turns-away; takes-none = takes-none; answers-cost = answers-cost; writes-none = writes-none; keeps-order = keeps-order }

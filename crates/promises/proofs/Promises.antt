@@ -112,6 +112,7 @@ demand-1 =
 pub demand-2 : Demand2
 demand-2 =
     record {
+      taken = λ sheet made. whole-exactly sheet .1 made;
       rising = priorities-rise;
       in-order = table-in-order;
       each-once = each-row-once;

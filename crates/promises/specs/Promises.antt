@@ -18,6 +18,8 @@ use Rattle.windows.specs.Judgement.{Judgement}
 use Rattle.sheet.specs.Promises.{WholeExactly, FaultySheetTurnedAway, RefusedByFirstFault, NoTableRefused}
 use Rattle.sheet.specs.Promises.{BoardAnswered, EachRowOnce, PrioritiesRise, TableInOrder}
 use Rattle.sheet.specs.Reader.{readOf}
+use Rattle.sheet.specs.Whole.{MadeOf}
+use Rattle.sheet.specs.declared.Verdict.the-variants.{Sound}
 use Rattle.sheet.specs.declared.Outcome.{Outcome}
 use Rattle.bench.specs.declared.Bench.{Bench}
 use Rattle.bench.specs.declared.Outcome.the-variants.{Taken}
@@ -97,10 +99,11 @@ pub record Demand1 : Type 0 where
   pub releases : ReleasesByRule
   pub ticks : TicksByRule tick
 
--- Demand 2, of a reader of sheets and a judge of row lists. Rows stand in rising priority number, each row of the sheet once.
--- The bound of a row is the least window from C to D that passes for every permitted choice of carry-in rows; the first row
--- with none is named, it and those below get no bound. No other answer reads so.
+-- Demand 2, of a reader of sheets and a judge of row lists. A sheet without fault is taken; its rows stand in rising priority
+-- number, each once. The bound of a row is the least window from C to D that passes for every permitted choice of carry-in
+-- rows; the first row with none is named, it and those below get no bound. No other judgement of a list reads so.
 pub record Demand2For (read : List ℕ → Outcome) (judge : (cores : ℕ) → List Row → Judged) : Type 0 where
+  pub taken : (sheet : List ℕ) → MadeOf sheet → read sheet .verdict ≡ Sound
   pub rising : PrioritiesRise read
   pub in-order : TableInOrder read
   pub each-once : EachRowOnce read

@@ -121,7 +121,7 @@ pub record SameAsDefined : Type 0 where
   pub bounds : (M : ℕ) (rows : List Row) → boundsBy ours M [] rows ≡ boundsBelow M [] rows
   pub histories : (b : Bench) (calls : List Call) → afterBy ours b calls ≡ after b calls
 
--- The promise holds for our parts,
+-- The promise holds for our parts.
 abbrev pub HoldsForOurs : Type 0
 HoldsForOurs = InTime ours
 
@@ -140,6 +140,6 @@ changed =
     ∷ parts (λ own x. x - own + 1) (λ M. M - 1) (λ c. c - 1) (λ bound. bound) (withTick inventing)
     ∷ []
 
--- and not by accident: each part is needed.
+-- It does not hold by accident: each part is needed.
 abbrev pub EachPartNeeded : Type 0
 EachPartNeeded = Each (λ p. InTime p → ⊥) changed

@@ -7,7 +7,7 @@ use mathlib.Core.Logic.{_⊎_, inl, inr, ⊎-elim}
 use mathlib.Core.Bool.{false}
 use mathlib.Core.List.{List, [], _∷_, _++_, append-assoc, append-nil}
 use lib.ListN.{length, getD, take, drop, length-append}
-use lib.Seq.{take-add}
+use lib.Seq.{length-take-le, take-add}
 use Rattle.laws.specs.Each.{Each}
 use Rattle.laws.specs.Permuted.{Permuted, as-is, keep, both}
 use Rattle.laws.proofs.Lists.{each-append}
@@ -41,6 +41,7 @@ record Known (sheet : List ℕ) (reading : Reading) (at : ℕ) : Type 0 where
   entries : List Entry
   is : reading ≡ rowsAt (coresOn board) (tickOn board) entries
   stand : take at sheet ≡ board ++ joined rows
+  ends : at ≡ length (board ++ joined rows)
   board-first : OneRecord boardKind board
   then-rows : Each (OneRecord rowKind) rows
   counted : length entries ≡ length rows
@@ -88,6 +89,7 @@ module _ (sheet : List ℕ) where
         entries = [];
         is = rw (board-sheet (coresOn sheet) (tickOn sheet), same-cores, same-tick) refl;
         stand = rw length-board (sym (append-nil front));
+        ends = rw (length-board, append-nil front) (sym (length-take-le 4 sheet long));
         board-first = front-record sheet boardKind 4 kind length-board (omega arith) long;
         then-rows = tt;
         counted = refl;
@@ -138,6 +140,9 @@ module _ (sheet : List ℕ) where
       let new = entryOf tick (rowFields (take 17 part)) in
       let together : Permuted (entriesOn tick (known .rows ++ take 17 part ∷ [])) (inserted new (known .entries)) =
       rw (entries-more tick (known .rows) (take 17 part)) (entered-more new (entriesOn tick (known .rows)) (known .entries) (known .entered)) in
+      let reached : at + sizeOf (recordAt sheet at) ≡ length (known .board ++ joined (known .rows ++ take 17 part ∷ [])) =
+      rw (joined-more (known .rows) (take 17 part), ← append-assoc (known .board) (joined (known .rows)) (take 17 part), length-append)
+      (omega (arith, here .size-is, known .ends, here .is-row .in-full, length-row)) in
       record {
         board = known .board;
         rows = known .rows ++ take 17 part ∷ [];
@@ -146,6 +151,7 @@ module _ (sheet : List ℕ) where
         stand =
             rw (here .size-is, take-add at 17 sheet, known .stand, joined-more (known .rows) (take 17 part))
             (append-assoc (known .board) (joined (known .rows)) (take 17 part));
+        ends = reached;
         board-first = known .board-first;
         then-rows = each-append (OneRecord rowKind) (known .rows) (take 17 part ∷ []) (known .then-rows) (here .is-row, tt);
         counted =
@@ -178,6 +184,7 @@ rows-read sheet reading at known =
       board = known .board;
       rows = known .rows;
       stand = known .stand;
+      ends = known .ends;
       board-first = known .board-first;
       then-rows = known .then-rows;
       begun = ap (λ (r : Reading). r .begun) (known .is);

@@ -37,6 +37,7 @@ pub record RowsRead (sheet : List ℕ) (reading : Reading) (at : ℕ) : Type 0 w
   pub board : List ℕ
   pub rows : List (List ℕ)
   pub stand : take at sheet ≡ board ++ joined rows
+  pub ends : at ≡ length (board ++ joined rows)
   pub board-first : OneRecord boardKind board
   pub then-rows : Each (OneRecord rowKind) rows
   pub begun : reading .begun ≡ true

@@ -5,11 +5,12 @@ use mathlib.Core.Logic.{_⊎_, _↔_}
 use mathlib.Core.List.{List, [], _∷_}
 use lib.ListN.{length, getD, take}
 use Rattle.quantities.specs.Row.{noRow}
+use Rattle.quantities.specs.Paper.{paper}
 use Rattle.quantities.specs.declared.Row.{Row}
 use Rattle.windows.specs.declared.Answer.the-variants.{Shown, NotShown}
 use Rattle.windows.specs.Choice.{Bounded, bounded}
 use Rattle.windows.specs.Bound.{IsBound, NoBound}
-use Rattle.windows.specs.Answer.{Judged}
+use Rattle.windows.specs.Answer.{Judged, paperOf}
 
 -- the row with index k, counted from 0: it stands at place k + 1
 abbrev pub rowOfIndex : List Row → ℕ → Row
@@ -25,9 +26,10 @@ pub record AllShown (rows : List Row) (j : Judged) : Type 0 where
   pub says : j .answer ≡ Shown
   pub each : length (j .bounds) ≡ length rows
 
--- The row below those with bounds is named, and no window passes for it.
+-- The row below those with bounds is named by 8 at its place, and no window passes for it.
 pub record FirstNotShown (M : ℕ) (rows : List Row) (j : Judged) : Type 0 where
   pub says : j .answer ≡ NotShown (suc (length (j .bounds)))
+  pub on-paper : paperOf (j .answer) ≡ paper 8 (suc (length (j .bounds)))
   pub stands : length (j .bounds) < length rows
   pub none : NoBound M (aboveIndex rows (j .bounds) (length (j .bounds)))
       (rowOfIndex rows (length (j .bounds)))
