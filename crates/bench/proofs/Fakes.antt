@@ -17,8 +17,8 @@ use Rattle.bench.specs.Serving.{unit, units, workers, less, worked, ends
 use Rattle.bench.specs.Step.{fresh, unless, served, moved, taken, tick}
 use Rattle.bench.specs.History.{ticks}
 use Rattle.bench.specs.TickRule.{Gets, PollEnds}
-use Rattle.bench.specs.Rules.{callTests, checkOf, callChecks, Permitted, TicksByRule}
-use Rattle.bench.specs.Fakes.{idled, once, invented, inventing, FakesCaught, NoOtherTick}
+use Rattle.bench.specs.Rules.{callTests, checkOf, callChecks, PermittedCall, TicksByRule}
+use Rattle.bench.specs.Fakes.{idled, once, invented, inventing, FakeTicksCaught, NoOtherTick}
 use Rattle.bench.proofs.Rules.{ticks-by-rule}
 use Rattle.bench.proofs.OneStep.{one-tick}
 
@@ -29,7 +29,7 @@ board = record { count = 1; rows = rowOf 1 4 4 ∷ replicate 31 noRow }
 abbrev b : Bench
 b = record { cores = 1; table = board; now = record { 0 = 1 }; states = fresh 1 1 ∷ replicate 31 idle }
 
-may : Permitted b ticks
+may : PermittedCall b ticks
 unfolding callChecks callTests checkOf tickTests refusalPaper broken rowsBroken rowBroken lastBroken isFault
     rowsOf rowChecks rowsChecks listChecks firstFailing faultFrom listFault
 may = (refl, (refl, tt))
@@ -77,8 +77,8 @@ inventing-caught rule = differ (rw two-said at (rule b refl may .listed (poll 1)
     differ (inl same) = let z : _≡_ {A = ℕ} 1 2 = ap (λ (f : Finish). f .response .0) same in omega arith
     differ (inr none) = none
 
-pub fakes-caught : FakesCaught
-fakes-caught = (once-caught, inventing-caught)
+pub fake-ticks-caught : FakeTicksCaught
+fake-ticks-caught = (once-caught, inventing-caught)
 
 pub no-other-tick : NoOtherTick
 no-other-tick run c full may differs rule =

@@ -26,7 +26,7 @@ use Rattle.bench.specs.Refusal.{refusalPaper, paperOf}
 use Rattle.bench.specs.Step.{emptyBench, openedAfter, opened, benchOr, openingOf}
 use Rattle.bench.specs.Step.{Step, fresh, started, release, taken, tick}
 use Rattle.bench.specs.History.{Call, releases, ticks, doCall, after}
-use Rattle.bench.specs.Rules.{callTests, checkOf, callChecks, Permitted, ReleaseChecks, TickChecks}
+use Rattle.bench.specs.Rules.{callTests, checkOf, callChecks, PermittedCall, ReleaseChecks, TickChecks}
 use Rattle.bench.specs.Rules.{CallTurnedAway, CallTaken, RefusedCallHasFault, RefusedUnchanged}
 use Rattle.bench.specs.Rules.{FaultyTableNotOpened, SoundTableOpened, OpenedHolds}
 use Rattle.bench.specs.Rules.{ReleasesByRule, TicksByRule}
@@ -82,7 +82,7 @@ unfolding firstRefusal checkOf
 none-refused [] passed = refl
 none-refused (one ∷ rest) passed = rw (passed .0, firstRefusal) (none-refused rest (passed .1))
 
-permitted : (b : Bench) (call : Call) → Permitted b call → firstRefusal (callTests b call) ≡ none
+permitted : (b : Bench) (call : Call) → PermittedCall b call → firstRefusal (callTests b call) ≡ none
 unfolding callChecks
 permitted b call = none-refused (callTests b call)
 

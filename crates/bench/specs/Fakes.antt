@@ -9,7 +9,7 @@ use Rattle.bench.specs.declared.Finish.{Finish}
 use Rattle.bench.specs.declared.Outcome.the-variants.{Taken}
 use Rattle.bench.specs.Step.{Step, tick}
 use Rattle.bench.specs.History.{ticks}
-use Rattle.bench.specs.Rules.{Permitted, TicksByRule}
+use Rattle.bench.specs.Rules.{PermittedCall, TicksByRule}
 
 -- the bench one instant later, with no row served
 unfoldable pub idled : Bench → Step
@@ -44,11 +44,11 @@ inventing b =
     }
 
 -- The rule holds for neither,
-abbrev pub FakesCaught : Type 0
-FakesCaught = (TicksByRule once → ⊥) × (TicksByRule inventing → ⊥)
+abbrev pub FakeTicksCaught : Type 0
+FakeTicksCaught = (TicksByRule once → ⊥) × (TicksByRule inventing → ⊥)
 
 -- nor for any other function that ticks in another way than ours, on a bench where a tick is permitted.
 abbrev pub NoOtherTick : Type 0
 NoOtherTick =
     (run : Bench → Step) (b : Bench)
-    → length (b .states) ≡ rowCapacity → Permitted b ticks → (run b ≡ tick b → ⊥) → TicksByRule run → ⊥
+    → length (b .states) ≡ rowCapacity → PermittedCall b ticks → (run b ≡ tick b → ⊥) → TicksByRule run → ⊥

@@ -38,8 +38,8 @@ unfoldable pub callChecks : Bench → Call → List Check
 callChecks b call = map checkOf (callTests b call)
 
 -- a call is permitted where none of them fails
-abbrev pub Permitted : Bench → Call → Type 0
-Permitted b call = Each (λ one. one .fails ≡ false) (callChecks b call)
+abbrev pub PermittedCall : Bench → Call → Type 0
+PermittedCall b call = Each (λ one. one .fails ≡ false) (callChecks b call)
 
 -- Order, release: 29, 20, 23, 22, 21.
 abbrev pub ReleaseChecks : Type 0
@@ -71,7 +71,7 @@ CallTurnedAway =
     → FirstFailing (callChecks b call) one → TurnedAway b (one .number) (one .place) (doCall b call)
 
 abbrev pub CallTaken : Type 0
-CallTaken = (b : Bench) (call : Call) → Permitted b call → doCall b call .outcome ≡ Taken
+CallTaken = (b : Bench) (call : Call) → PermittedCall b call → doCall b call .outcome ≡ Taken
 
 -- And a call that is refused fails the check that has its number and place, and none before it.
 abbrev pub RefusedCallHasFault : Type 0
@@ -105,14 +105,14 @@ SoundTableOpened =
 
 -- The bench holds a table that passed checks 1 to 6, whatever the calls; an instant starting at 0; and for
 -- each row its last release, its released demand and what remains of it, at the start none.
-pub record Holds (cores : ℕ) (table : Table) (b : Bench) : Type 0 where
+pub record BenchHolds (cores : ℕ) (table : Table) (b : Bench) : Type 0 where
   pub passed : SoundList cores (rowsOf table)
   pub board : (calls : List Call) → (after b calls .cores ≡ cores) × (after b calls .table ≡ table)
   pub starts : b .now .0 ≡ 0
   pub none-released : (place : ℕ) → stateAt b place ≡ idle
 
 abbrev pub OpenedHolds : Type 0
-OpenedHolds = (cores : ℕ) (table : Table) (b : Bench) → opened cores table ≡ some b → Holds cores table b
+OpenedHolds = (cores : ℕ) (table : Table) (b : Bench) → opened cores table ≡ some b → BenchHolds cores table b
 
 -- Release: a poll starts at the present instant. Every other place, the clock and the board stay. A bench of
 -- the code has a state for each of the rows that a table can hold.
@@ -128,13 +128,13 @@ pub record ReleaseRule (b : Bench) (place demand : ℕ) (step : Step) : Type 0 w
 abbrev pub ReleasesByRule : Type 0
 ReleasesByRule =
     (b : Bench) (place demand : ℕ)
-    → length (b .states) ≡ rowCapacity → Permitted b (releases place demand)
+    → length (b .states) ≡ rowCapacity → PermittedCall b (releases place demand)
     → ReleaseRule b place demand (release b place demand)
 
 -- Tick: the rule of specs/TickRule.antt, for each permitted tick of a function that ticks.
 abbrev pub TicksByRule : (Bench → Step) → Type 0
 TicksByRule run =
-    (b : Bench) → length (b .states) ≡ rowCapacity → Permitted b ticks → TickRule b (run b)
+    (b : Bench) → length (b .states) ≡ rowCapacity → PermittedCall b ticks → TickRule b (run b)
 
 -- Each rule leaves one step: any two that meet it are equal (proofs/OneStep.antt).
 abbrev pub OneRelease : Type 0
