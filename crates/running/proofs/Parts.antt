@@ -50,7 +50,6 @@ use Rattle.running.specs.Parts.{
   ours,
   idling,
   early,
-  SameAsDefined,
   HoldsForOurs,
   EachPartNeeded,
 }
@@ -108,8 +107,8 @@ bounds-are cores table start is =
     bounds-ours cores [] (rowsOf table)
     ∙ sym (ap (λ (j : Judged). j .bounds) (judged-sound cores (rowsOf table) (opened-sound cores table start is)))
 
-pub holds-for-ours : HoldsForOurs
-holds-for-ours cores table start is calls call place first =
+ours-in-time : InTime ours
+ours-in-time cores table start is calls call place first =
     rw (bounds-are cores table start is, after-ours start calls)
     (λ within.
     let now = bounds-hold cores table start is calls place first within in
@@ -121,8 +120,9 @@ holds-for-ours cores table start is calls call place first =
       not-unfinished = last-step (NotUnfinished place) start calls call (next .not-unfinished);
     })
 
-pub same-as-defined : SameAsDefined
-same-as-defined = record { bounds = λ M rows. bounds-ours M [] rows; histories = after-ours }
+pub holds-for-ours : HoldsForOurs
+holds-for-ours =
+    record { bounds = λ M rows. bounds-ours M [] rows; histories = after-ours; in-time = ours-in-time }
 
 -- The board that shows each changed part wrong: two cores, and rows whose bounds are 1, 1, 3 and 4.
 abbrev board : Table

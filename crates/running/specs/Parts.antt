@@ -116,14 +116,12 @@ early b ticks = tick b
 abbrev pub ours : Parts
 ours = parts (λ own x. x - own + 1) (λ M. M - 1) (λ c. c - 1) (λ bound. bound) doCall
 
--- With our parts, bounds and histories are those of crates/windows and crates/bench: nothing is said of a copy.
-pub record SameAsDefined : Type 0 where
+-- The promise holds for our parts, with the bounds of crates/windows and the histories of crates/bench: nothing is said of
+-- a copy.
+pub record HoldsForOurs : Type 0 where
   pub bounds : (M : ℕ) (rows : List Row) → boundsBy ours M [] rows ≡ boundsBelow M [] rows
   pub histories : (b : Bench) (calls : List Call) → afterBy ours b calls ≡ after b calls
-
--- The promise holds for our parts.
-abbrev pub HoldsForOurs : Type 0
-HoldsForOurs = InTime ours
+  pub in-time : InTime ours
 
 -- The same with one part changed: the bound lowered by one; interference limited by x − C; one carry-in row too few;
 -- carry-in cut at C − 2; a tick that idles when fewer than M rows have work; a gap counted one short; and the two fake

@@ -127,8 +127,8 @@ load-le-limit : (own x : ℕ) (b : Bounded)
     → Lighter (load own x b) (record { without = limit own x; carrying = limit own x })
 load-le-limit own x b =
     record {
-      without = interference-le-limit own x (plain (cost (b .row)) (gap (b .row)) x);
-      carrying = interference-le-limit own x (carry (cost (b .row)) (gap (b .row)) (b .bound) x);
+      without = interference-le-limit own x _;
+      carrying = interference-le-limit own x _;
     }
 
 -- so the sums of an engine stay small
