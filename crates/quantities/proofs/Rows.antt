@@ -1,14 +1,17 @@
 -- Laws of a table's rows as a list.
-use Prim.Native.Nat.{ℕ, suc, _<_}
+use Prim.Native.Nat.{ℕ, suc, _+_, _≤_, _<_}
 use native.Mathlib.Omega.{arith}
-use mathlib.Core.Path.{_≡_, subst}
-use mathlib.Core.List.{[], _∷_}
-use lib.ListN.{length, getD, drop, length-take, length-append, length-replicate, drop-of-length-le}
-use lib.Seq.{drop-cons, getD-take}
+use native.Mathlib.Numerals.{add-one}
+use mathlib.Core.Path.{_≡_, refl, subst}
+use mathlib.Core.List.{[], _∷_, _++_}
+use lib.ListN.{length, getD, take, drop, set, replicate, length-take, length-append, length-replicate, length-set, drop-of-length-le}
+use lib.Seq.{drop-cons, getD-take, take-append-le, take-suc-set}
+use borrow.Author.Tests.{lt-ltb, le-ltb}
 use Rattle.laws.specs.Each.{Each}
 use Rattle.laws.proofs.Lists.{getD-padded, each-at}
+use Rattle.quantities.specs.Limits.{rowCapacity}
 use Rattle.quantities.specs.Row.{noRow}
-use Rattle.quantities.specs.Table.{rowsOf}
+use Rattle.quantities.specs.Table.{rowsOf, withRow}
 use Rattle.quantities.specs.declared.Row.{Row}
 use Rattle.quantities.specs.declared.Table.{Table}
 
@@ -38,3 +41,26 @@ pub each-row : (P : Row → Type 0) (table : Table) (i : ℕ) → i < table .cou
     → P (getD (table .rows) i noRow)
 each-row P table i h each =
     subst P (row-at table i h) (each-at P (rowsOf table) i noRow (omega (arith, length-rows table)) each)
+
+-- the rows of a table that keeps all that it counts
+pub rows-kept : (table : Table) → table .count ≤ length (table .rows) → rowsOf table ≡ take (table .count) (table .rows)
+unfolding rowsOf
+rows-kept table h = take-append-le (table .count) (table .rows) (replicate (table .count) noRow) h
+
+-- a table that is not full takes one row more, below its others; a full one counts one row too many
+pub with-row-fits : (table : Table) (row : Row) → table .count < rowCapacity
+    → withRow table row ≡ record { count = table .count + 1; rows = set (table .rows) (table .count) row }
+unfolding withRow
+with-row-fits table row h = rw (lt-ltb (table .count) rowCapacity h) refl
+
+pub with-row-full : (table : Table) (row : Row) → rowCapacity ≤ table .count → withRow table row .count ≡ suc rowCapacity
+unfolding withRow
+with-row-full table row h = rw (le-ltb (table .count) rowCapacity h) refl
+
+pub with-row-rows : (table : Table) (row : Row) → length (table .rows) ≡ rowCapacity → table .count < rowCapacity
+    → rowsOf (withRow table row) ≡ rowsOf table ++ (row ∷ [])
+with-row-rows table row l h =
+    let more : Table = record { count = table .count + 1; rows = set (table .rows) (table .count) row } in
+    let room : more .count ≤ length (more .rows) = rw (length-set (table .rows) (table .count) row) (omega arith) in
+    rw (with-row-fits table row h, rows-kept more room, rows-kept table (omega arith), add-one)
+    (take-suc-set (table .rows) (table .count) row (omega arith))
