@@ -28,21 +28,21 @@ pub struct Analysis {
 // What one row above takes from the row judged, without and with carry-in, and how far the window can grow with the
 // row taking every tick of it.
 struct Load {
-    without: u64,
-    carrying: u64,
-    room: u64,
+    without: Ticks,
+    carrying: Ticks,
+    room: Ticks,
 }
 
 // What the rows above take from the row judged, and the ticks that they have room for on every core.
 struct Taken {
-    most: u64,
-    stride: u64,
+    most: Ticks,
+    stride: Ticks,
 }
 
 // How many of the rows above have room, and the least room of these.
 struct Rooms {
     count: usize,
-    least: u64,
+    least: Ticks,
 }
 
 // The least window that passes, if there is one.
@@ -61,11 +61,11 @@ fn larger(a: u64, b: u64) -> u64
     a
 }
 
-// The smaller of two numbers.
-fn smaller(a: u64, b: u64) -> u64
-    ensures { λ r. ⌜ r ≡ min a b ⌝ }
+// The smaller of two lengths.
+fn smaller(a: Ticks, b: Ticks) -> Ticks
+    ensures { λ r. ⌜ r .0 ≡ min (a .0) (b .0) ⌝ }
 {
-    if a < b {
+    if a.0 < b.0 {
         return a;
     }
     b
@@ -76,39 +76,39 @@ fn smaller(a: u64, b: u64) -> u64
 fn raise(
     mosts: &mut [u64; Table::CORE_LIMIT as usize],
     carriers: usize,
-    without: u64,
-    carrying: u64,
+    without: Ticks,
+    carrying: Ticks,
 )
-    requires { ⌜ CanRaise (now mosts) carriers without carrying ⌝ }
-    ensures { λ _. ⌜ Raised (now (mosts .entry)) (now (mosts .exit)) carriers without carrying ⌝ }
+    requires { ⌜ CanRaise (now mosts) carriers (without .0) (carrying .0) ⌝ }
+    ensures { λ _. ⌜ Raised (now (mosts .entry)) (now (mosts .exit)) carriers (without .0) (carrying .0) ⌝ }
 {
     let mut m = carriers;
     while 0 < m {
-        let staying = without + mosts[m];
-        let coming = carrying + mosts[m - 1];
+        let staying = without.0 + mosts[m];
+        let coming = carrying.0 + mosts[m - 1];
         let best = larger(staying, coming);
         mosts[m] = best;
         m -= 1;
     }
-    mosts[0] = without + mosts[0];
+    mosts[0] = without.0 + mosts[0];
 }
 
 // The work of the polls of a row that came in a window, the present one whole.
-fn polls_in(window: u64, gap: u64, cost: u64) -> u64
-    requires { ⌜ (0 < gap) × (cost ≤ gap) × (gap ≤ largestGap) × (window ≤ largestGap) ⌝ }
-    ensures { λ r. ⌜ r ≡ window / gap * cost + cost ⌝ }
+fn polls_in(window: Ticks, gap: Ticks, cost: Ticks) -> Ticks
+    requires { ⌜ (0 < gap .0) × (cost .0 ≤ gap .0) × (gap .0 ≤ largestGap) × (window .0 ≤ largestGap) ⌝ }
+    ensures { λ r. ⌜ r .0 ≡ window .0 / gap .0 * cost .0 + cost .0 ⌝ }
 {
-    let gaps = window / gap;
-    let whole = gaps * cost;
-    whole + cost
+    let gaps = window.0 / gap.0;
+    let whole = gaps * cost.0;
+    Ticks(whole + cost.0)
 }
 
 // The count and the least with one room more.
-fn with_room(rooms: Rooms, room: u64) -> Rooms
+fn with_room(rooms: Rooms, room: Ticks) -> Rooms
     requires { ⌜ rooms .count < rowCapacity ⌝ }
-    ensures { λ r. ⌜ (r .count ≡ countWith room (rooms .count)) × (r .least ≡ leastWith room (rooms .least)) ⌝ }
+    ensures { λ r. ⌜ (r .count ≡ countWith (room .0) (rooms .count)) × (r .least .0 ≡ leastWith (room .0) (rooms .least .0)) ⌝ }
 {
-    if room == 0 {
+    if room.0 == 0 {
         return rooms;
     }
     let least = smaller(room, rooms.least);
@@ -121,19 +121,19 @@ fn with_room(rooms: Rooms, room: u64) -> Rooms
 // The load of a row above with this bound on a row with this own cost, in a window.
 fn load_of(own: Ticks, window: Ticks, row: Row, bound: Ticks) -> Load
     requires { ⌜ CanLoad (bounded row (bound .0)) (window .0) ⌝ }
-    ensures { λ r. ⌜ LoadIs (own .0) (window .0) (bounded row (bound .0)) (r .without) (r .carrying) (r .room) ⌝ }
+    ensures { λ r. ⌜ LoadIs (own .0) (window .0) (bounded row (bound .0)) (r .without .0) (r .carrying .0) (r .room .0) ⌝ }
 {
-    let polls = polls_in(window.0, row.t.0, row.c.0);
+    let polls = polls_in(window, row.t, row.c);
     let plain = windows::plain_work(row, window);
     let carry = windows::carry_work(row, bound, window);
     let without = windows::interference(own, window, plain);
     let carrying = windows::interference(own, window, carry);
-    let unfinished = polls - without.0;
+    let unfinished = polls.0 - without.0;
     let cut = carry.0 - carrying.0;
-    let room = smaller(unfinished, cut);
+    let room = smaller(Ticks(unfinished), Ticks(cut));
     Load {
-        without: without.0,
-        carrying: carrying.0,
+        without: without,
+        carrying: carrying,
         room: room,
     }
 }
@@ -148,13 +148,13 @@ fn taken_above(
     window: Ticks,
 ) -> Taken
     requires { ⌜ Ready cores table bounds k × (window .0 ≤ largestGap) ⌝ }
-    ensures { λ r. ⌜ TakenIs cores (own .0) (window .0) (above table bounds k) (r .most) (r .stride) ⌝ }
+    ensures { λ r. ⌜ TakenIs cores (own .0) (window .0) (above table bounds k) (r .most .0) (r .stride .0) ⌝ }
 {
     let carriers = (cores - 1) as usize;
     let mut mosts = [0u64; Table::CORE_LIMIT as usize];
     let mut rooms = Rooms {
         count: 0,
-        least: Table::LARGEST_GAP,
+        least: Ticks(Table::LARGEST_GAP),
     };
     let mut i: usize = 0;
     while i < k {
@@ -165,16 +165,18 @@ fn taken_above(
         rooms = with_room(rooms, load.room);
         i += 1;
     }
-    let most = mosts[carriers];
+    let total = mosts[carriers];
+    let most = Ticks(total);
     if rooms.count <= carriers {
         return Taken {
             most: most,
-            stride: 0,
+            stride: Ticks(0),
         };
     }
+    let least = rooms.least;
     Taken {
         most: most,
-        stride: rooms.least,
+        stride: least,
     }
 }
 
@@ -190,11 +192,11 @@ fn bound_of(cores: u32, table: Table, bounds: [Ticks; Table::ROW_CAPACITY], k: u
     while x <= top {
         let window = Ticks(x);
         let taken = taken_above(cores, table, bounds, k, own, window);
-        let next = own.0 + taken.most / (cores as u64);
+        let next = own.0 + taken.most.0 / (cores as u64);
         if next <= x {
             return Found::At(window);
         }
-        let far = x + taken.stride + 1;
+        let far = x + taken.stride.0 + 1;
         x = larger(next, far);
     }
     Found::Nothing

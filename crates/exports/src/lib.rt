@@ -1,10 +1,14 @@
 //! The analysis for callers in C: rows as triples of numbers, bounds into a lent list, the answer as one number.
 ghost use mathlib.Core.Path.{_≡_};
-ghost use Prim.Native.Nat.{_<_};
+ghost use Prim.Native.Nat.{_≤_, _<_};
 ghost use lib.ListN.{length};
 ghost use Rattle.windows.specs.Answer.{judgedInto, paperOf};
+ghost use Rattle.quantities.specs.Limits.{rowCapacity};
+ghost use Rattle.analysis.specs.Analysis.{numbers};
 ghost use Rattle.lentrows.specs.Loaded.{tableOf};
+ghost use Rattle.lentrows.specs.Lent.{firstOf};
 ghost use Rattle.exports.specs.Exported.{rowsFrom, placeLimit, coded, codeOf, FitsCode, Exported};
+use lentrows::Told;
 use quantities::Fault;
 use quantities::Row;
 use quantities::Table;
@@ -63,6 +67,20 @@ fn code_of(answer: Answer) -> u64
     }
 }
 
+// Writes the bounds told, as numbers of ticks, into the first entries of a lent list.
+fn write_bounds(told: Told, bounds: &mut [u64])
+    requires { ⌜ (told .shown ≤ rowCapacity) × (told .shown ≤ length (now bounds)) ⌝ }
+    ensures { λ _. ⌜ now (bounds .exit) ≡ firstOf (told .shown) (numbers (told .bounds)) (now (bounds .entry)) ⌝ }
+{
+    let found = told.bounds;
+    let mut i: usize = 0;
+    while i < told.shown {
+        let bound = found[i];
+        bounds[i] = bound.0;
+        i += 1;
+    }
+}
+
 // The answer to a list of rows on a board with this many cores, with the bounds in the first entries of the lent list.
 #[no_mangle]
 pub extern "C" fn dipperslate_analyse(cores: u32, rows: &[[u64; 3]], bounds: &mut [u64]) -> u64
@@ -70,6 +88,8 @@ pub extern "C" fn dipperslate_analyse(cores: u32, rows: &[[u64; 3]], bounds: &mu
         (now (bounds .entry)) (now (bounds .exit)) r ⌝ }
 {
     let table = load(rows);
-    let answer = lentrows::answer_into(cores, table, bounds);
+    let told = lentrows::answer_for(cores, table, bounds.len());
+    let answer = told.answer;
+    write_bounds(told, bounds);
     code_of(answer)
 }

@@ -36,11 +36,11 @@ pub fn tick(b: &mut Bench) -> TickAnswer
 }
 
 // The bench runs for so many ticks: the caller's loop lends it to one tick after another.
-pub fn run(b: &mut Bench, ticks: u64)
-    ensures { λ _. ⌜ now (b .exit) ≡ after (now (b .entry)) (ticksFor ticks) ⌝ }
+pub fn run(b: &mut Bench, ticks: Ticks)
+    ensures { λ _. ⌜ now (b .exit) ≡ after (now (b .entry)) (ticksFor (ticks .0)) ⌝ }
 {
     let mut i: u64 = 0;
-    while i < ticks {
+    while i < ticks.0 {
         tick(b);
         i += 1;
     }

@@ -2,27 +2,40 @@
 use Prim.Native.Nat.{ℕ, suc, _-_, _≤_}
 use native.Mathlib.Omega.{arith}
 use native.Mathlib.Decide.{decLe}
-use mathlib.Core.Path.{_≡_, refl, sym, _∙_}
+use mathlib.Core.Path.{_≡_, refl, sym, ap, _∙_}
 use mathlib.Core.Bool.{Bool, true, false}
-use mathlib.Core.List.{List, []}
+use mathlib.Core.List.{List, [], _∷_, cons-ne-nil, head-eq-of-cons-eq, tail-eq-of-cons-eq}
 use mathlib.Core.Option.{Option, none, some}
 use lib.Dec.{eqb}
 use lib.ListN.{length, drop, length-append, length-drop}
 use lib.Seq.{take-at, drop-at}
 use borrow.Author.Tests.{eqb-true}
+use Rattle.quantities.specs.Limits.{rowCapacity}
 use Rattle.quantities.specs.Checks.{listFault, lentFault}
 use Rattle.quantities.specs.declared.Row.{Row}
 use Rattle.quantities.specs.declared.Fault.{Fault}
+use Rattle.quantities.specs.declared.Ticks.{Ticks}
 use Rattle.quantities.proofs.Sound.{sound-list-means}
 use Rattle.windows.specs.declared.Answer.the-variants.{Shown, NotShown, Refused}
 use Rattle.windows.specs.Answer.{Judged, verdict, judgedAfter, judgedInto, written}
 use Rattle.windows.specs.Bound.{boundsBelow}
+use Rattle.analysis.specs.Analysis.{ticks, numbers}
 use Rattle.windows.proofs.Into.{into-faulty, into-short, into-room, few-bounds}
 use Rattle.lentrows.specs.Lent.{LentAnalysis, Filled, judgedOver}
 use Rattle.lentrows.specs.Lent.{RefusedWritesNothing, NotShownLeaves, ShownFills, LengthKept, OneOutcome}
 
+-- lengths are told apart by their numbers
+same-numbers : (xs ys : List Ticks) → numbers xs ≡ numbers ys → xs ≡ ys
+same-numbers [] [] e = refl
+same-numbers [] (y ∷ ys) e = absurd (cons-ne-nil _ _ (sym e))
+same-numbers (x ∷ xs) [] e = absurd (cons-ne-nil _ _ e)
+same-numbers (x ∷ xs) (y ∷ ys) e =
+    ap (λ (n : ℕ). ticks n ∷ xs) (head-eq-of-cons-eq e)
+    ∙ ap (λ (zs : List Ticks). y ∷ zs) (same-numbers xs ys (tail-eq-of-cons-eq e))
+
 pub one-outcome : OneOutcome
-one-outcome j before after after′ answer answer′ a b = (a .leaves ∙ sym (b .leaves), a .answers ∙ sym (b .answers))
+one-outcome j before after after′ answer answer′ a b =
+    (same-numbers after after′ (a .leaves ∙ sym (b .leaves)), a .answers ∙ sym (b .answers))
 
 -- how many bounds a verdict has, by its answer
 verdict-shown : (count : ℕ) (bounds : List ℕ) → verdict count bounds .answer ≡ Shown → length bounds ≡ count
@@ -96,18 +109,21 @@ not-shown-leaves M rows before after place = go (lentFault M (length before) row
         (meets .leaves)
     go (some f) q meets = let z : _≡_ {A = ℕ} 0 1 = cc (rw (q, judgedAfter) at (meets .answers)) in absurd (omega arith)
 
--- There are no more bounds than entries: none where the list is refused, else at most one per row.
-bounds-fit : (M : ℕ) (rows : List Row) (before : List ℕ) → length (judgedOver M rows before .bounds) ≤ length before
-bounds-fit M rows before = go (listFault M rows) refl
+-- There are no more bounds than entries, nor than a table has rows: none where the list is refused, else at most one per row.
+pub bounds-fit : (M entries : ℕ) (rows : List Row)
+    → (length (judgedInto M entries rows .bounds) ≤ rowCapacity) × (length (judgedInto M entries rows .bounds) ≤ entries)
+bounds-fit M entries rows = go (listFault M rows) refl
   where
-    go : (found : Option Fault) → listFault M rows ≡ found → length (judgedOver M rows before .bounds) ≤ length before
-    go (some fault) q = rw (into-faulty M (length before) rows fault q) (omega arith)
+    go : (found : Option Fault) → listFault M rows ≡ found
+        → (length (judgedInto M entries rows .bounds) ≤ rowCapacity) × (length (judgedInto M entries rows .bounds) ≤ entries)
+    go (some fault) q = rw (into-faulty M entries rows fault q) (omega arith)
     go none q =
-        elim (decLe (length rows) (length before)) [
+        let sound = sound-list-means M rows .0 q in
+        elim (decLe (length rows) entries) [
           | yes room ↦
-              rw (into-room M (length before) rows q room)
-              (omega (arith, few-bounds M rows (sound-list-means M rows .0 q)))
-          | no short ↦ rw (into-short M (length before) rows q (omega arith)) (omega arith)
+              rw (into-room M entries rows q room)
+              (omega (arith, few-bounds M rows sound, sound .few-rows))
+          | no short ↦ rw (into-short M entries rows q (omega arith)) (omega arith)
         ]
 
 pub length-kept : LengthKept
@@ -115,4 +131,4 @@ unfolding written
 length-kept M rows before after answer meets =
     let bounds = judgedOver M rows before .bounds in
     rw (meets .leaves)
-    (omega (arith, bounds-fit M rows before, length-append bounds (drop (length bounds) before), length-drop (length bounds) before))
+    (omega (arith, bounds-fit M (length before) rows .1, length-append bounds (drop (length bounds) before), length-drop (length bounds) before))

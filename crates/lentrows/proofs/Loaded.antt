@@ -7,7 +7,6 @@ use mathlib.Core.List.{List, _++_}
 use mathlib.Core.Option.{some}
 use lib.ListN.{length, take, set, replicate, length-set, length-replicate}
 use lib.Seq.{take-suc, take-suc-set, take-append-le, take-length}
-use borrow.Author.Tests.{lt-ltb, le-ltb}
 use Rattle.quantities.specs.Limits.{rowCapacity}
 use Rattle.quantities.specs.Row.{noRow}
 use Rattle.quantities.specs.Table.{rowsOf, emptyTable, withRow}
@@ -16,21 +15,11 @@ use Rattle.quantities.specs.declared.Row.{Row}
 use Rattle.quantities.specs.declared.Table.{Table}
 use Rattle.quantities.specs.declared.Fault.the-variants.{WholeList}
 use Rattle.quantities.proofs.Checks.{list-fault-many-rows}
-use Rattle.quantities.proofs.Rows.{length-rows}
+use Rattle.quantities.proofs.Rows.{length-rows, with-row-fits, with-row-full}
 use Rattle.windows.specs.Answer.{judgedInto}
 use Rattle.windows.specs.Judgement.{rowOfIndex}
 use Rattle.lentrows.specs.Loaded.{loaded, tableOf}
 use Rattle.windows.proofs.Into.{into-faulty}
-
--- a table that is not full takes one row more; a full one counts one row too many
-with-row-fits : (table : Table) (row : Row) → table .count < rowCapacity
-    → withRow table row ≡ record { count = table .count + 1; rows = set (table .rows) (table .count) row }
-unfolding withRow
-with-row-fits table row h = rw (lt-ltb (table .count) rowCapacity h) refl
-
-with-row-full : (table : Table) (row : Row) → rowCapacity ≤ table .count → withRow table row .count ≡ suc rowCapacity
-unfolding withRow
-with-row-full table row h = rw (le-ltb (table .count) rowCapacity h) refl
 
 -- A table holds the first n rows of a list.
 record Holds (rows : List Row) (n : ℕ) (table : Table) : Type 0 where

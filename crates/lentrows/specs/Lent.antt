@@ -9,16 +9,22 @@ use Rattle.quantities.specs.declared.Ticks.{Ticks}
 use Rattle.windows.specs.Answer.{Judged, judgedInto, written}
 use Rattle.windows.specs.declared.Answer.{Answer}
 use Rattle.windows.specs.declared.Answer.the-variants.{Shown, NotShown, Refused}
-use Rattle.analysis.specs.Analysis.{numbers}
+use Rattle.analysis.specs.Analysis.{numbers, inArray}
+use Rattle.lentrows.specs.declared.Told.{Told}
 
--- The answer is the one judged, and the list is left with the bounds that come with it in its first entries.
+-- The answer is the one judged, and the list, read as numbers of ticks, is left with the bounds that come with it in its
+-- first entries.
 pub record LentAnalysis (judged : Judged) (before after : List ℕ) (answer : Answer) : Type 0 where
   pub answers : answer ≡ judged .answer
   pub leaves : after ≡ written judged before
 
 -- the first n of these bounds, then the entries that the list had
-abbrev pub firstOf : ℕ → List Ticks → List ℕ → List ℕ
-firstOf n found before = take n (numbers found) ++ drop n before
+abbrev pub firstOf : {A : Type 0} → ℕ → List A → List A → List A
+firstOf n found before = take n found ++ drop n before
+
+-- what the caller is told of what is judged: the bounds in an array, and how many there are
+unfoldable pub toldOf : Judged → Told
+toldOf j = record { answer = j .answer; bounds = inArray (j .bounds); shown = length (j .bounds) }
 
 -- how many rows of so many have a bound where this is the answer
 unfoldable pub shownBy : Answer → (count : ℕ) → ℕ
@@ -64,10 +70,10 @@ LengthKept =
     → LentAnalysis (judgedOver M rows before) before after answer
     → length after ≡ length before
 
--- Any two outcomes meeting the statement are equal.
+-- Any two outcomes meeting the statement are equal: the list is left with the same lengths, and the answer is the same.
 abbrev pub OneOutcome : Type 0
 OneOutcome =
-    (j : Judged) (before after after′ : List ℕ) (answer answer′ : Answer)
-    → LentAnalysis j before after answer
-    → LentAnalysis j before after′ answer′
+    (j : Judged) (before after after′ : List Ticks) (answer answer′ : Answer)
+    → LentAnalysis j (numbers before) (numbers after) answer
+    → LentAnalysis j (numbers before) (numbers after′) answer′
     → (after ≡ after′) × (answer ≡ answer′)

@@ -113,7 +113,7 @@ add-next c =
     let x = c .before .before .before .before .loop .x in
     let row : SoundRow (getD (s .args .t2 .rows) (s .args .k) noRow) = each-row SoundRow (s .args .t2) (s .args .k) (s .pre .1) (s .pre .0 .sound) in
     let taken = c .before .before .taken-above in
-    let share = share-small (s .args .cores) (s .args .t2) (s .args .bounds) (s .args .k) (cost (getD (s .args .t2 .rows) (s .args .k) noRow)) x (taken .result .most) (taken .result .stride) (s .pre .0) (c .before .before .before .before .loop .inv) (taken .ensures) (omega arith) (omega arith) in
+    let share = share-small (s .args .cores) (s .args .t2) (s .args .bounds) (s .args .k) (cost (getD (s .args .t2 .rows) (s .args .k) noRow)) x (taken .result .most .0) (taken .result .stride .0) (s .pre .0) (c .before .before .before .before .loop .inv) (taken .ensures) (omega arith) (omega arith) in
     record { fits = omega arith }
 
 returns : tie.Need-returns Inv-loop μ-loop
@@ -122,7 +122,7 @@ returns c =
     let at = c .before .before .before .before .before .loop in
     let taken = c .before .before .before .taken-above in
     found (s .args .cores) (s .args .t2) (s .args .bounds) (s .args .k) (at .x) (s .pre .1) (at .inv) (omega arith)
-    (stops (s .args .cores) (s .args .t2) (s .args .bounds) (s .args .k) (cost (getD (s .args .t2 .rows) (s .args .k) noRow)) (at .x) (taken .result .most) (taken .result .stride) (s .pre .0) (at .inv) (taken .ensures) (c .if1 .taken))
+    (stops (s .args .cores) (s .args .t2) (s .args .bounds) (s .args .k) (cost (getD (s .args .t2 .rows) (s .args .k) noRow)) (at .x) (taken .result .most .0) (taken .result .stride .0) (s .pre .0) (at .inv) (taken .ensures) (c .if1 .taken))
 
 add-far : tie.Need-add-far Inv-loop μ-loop
 add-far c =
@@ -130,7 +130,7 @@ add-far c =
     let x = c .before .before .before .before .before .before .loop .x in
     let row : SoundRow (getD (s .args .t2 .rows) (s .args .k) noRow) = each-row SoundRow (s .args .t2) (s .args .k) (s .pre .1) (s .pre .0 .sound) in
     let taken = c .before .before .before .before .taken-above in
-    let stride = stride-small (s .args .cores) (s .args .t2) (s .args .bounds) (s .args .k) (cost (getD (s .args .t2 .rows) (s .args .k) noRow)) x (taken .result .most) (taken .result .stride) (s .pre .0) (c .before .before .before .before .before .before .loop .inv) (taken .ensures) in
+    let stride = stride-small (s .args .cores) (s .args .t2) (s .args .bounds) (s .args .k) (cost (getD (s .args .t2 .rows) (s .args .k) noRow)) x (taken .result .most .0) (taken .result .stride .0) (s .pre .0) (c .before .before .before .before .before .before .loop .inv) (taken .ensures) in
     record { fits = omega arith }
 
 add-far-2 : tie.Need-add-far-2 Inv-loop μ-loop
@@ -139,7 +139,7 @@ add-far-2 c =
     let x = c .before .before .before .before .before .before .loop .x in
     let row : SoundRow (getD (s .args .t2 .rows) (s .args .k) noRow) = each-row SoundRow (s .args .t2) (s .args .k) (s .pre .1) (s .pre .0 .sound) in
     let taken = c .before .before .before .before .taken-above in
-    let stride = stride-small (s .args .cores) (s .args .t2) (s .args .bounds) (s .args .k) (cost (getD (s .args .t2 .rows) (s .args .k) noRow)) x (taken .result .most) (taken .result .stride) (s .pre .0) (c .before .before .before .before .before .before .loop .inv) (taken .ensures) in
+    let stride = stride-small (s .args .cores) (s .args .t2) (s .args .bounds) (s .args .k) (cost (getD (s .args .t2 .rows) (s .args .k) noRow)) x (taken .result .most .0) (taken .result .stride .0) (s .pre .0) (c .before .before .before .before .before .before .loop .inv) (taken .ensures) in
     record { fits = omega arith }
 
 larger-requires : tie.Need-larger-requires Inv-loop μ-loop
@@ -154,7 +154,7 @@ loop-again c =
     let at = c .before .before .before .before .before .before .before .loop in
     let taken = c .before .before .before .before .before .taken-above in
     rw (c .larger .ensures)
-    (goes-on (s .args .cores) (s .args .t2) (s .args .bounds) (s .args .k) (cost (getD (s .args .t2 .rows) (s .args .k) noRow)) (at .x) (taken .result .most) (taken .result .stride) (s .pre .0) (at .inv) (taken .ensures) (omega arith))
+    (goes-on (s .args .cores) (s .args .t2) (s .args .bounds) (s .args .k) (cost (getD (s .args .t2 .rows) (s .args .k) noRow)) (at .x) (taken .result .most .0) (taken .result .stride .0) (s .pre .0) (at .inv) (taken .ensures) (omega arith))
 
 returns-2 : tie.Need-returns-2 Inv-loop μ-loop
 returns-2 c =

@@ -37,14 +37,14 @@ carrying-le-carry own x b = interference-le-work own x (carry (cost (b .row)) (g
 
 sub-unfinished : tie.Need-sub-unfinished
 sub-unfinished c =
-    let a = c .before .before .before .before .before .before .args in
-    rw (c .before .before .interference .ensures, c .before .before .before .before .plain-work .ensures, c .before .before .before .before .before .polls-in .ensures)
+    let a = c .before .before .before .before .before .before .before .args in
+    rw (c .before .before .before .interference .ensures, c .before .before .before .before .before .plain-work .ensures, c .before .before .before .before .before .before .polls-in .ensures)
     (without-le-polls (a .own .0) (a .window .0) (bounded (a .row) (a .bound .0)))
 
 sub-cut : tie.Need-sub-cut
 sub-cut c =
-    let a = c .before .before .before .before .before .before .before .before .args in
-    rw (c .before .before .before .interference2 .ensures, c .before .before .before .before .before .carry-work .ensures)
+    let a = c .before .before .before .before .before .before .before .before .before .args in
+    rw (c .before .before .before .before .interference2 .ensures, c .before .before .before .before .before .before .carry-work .ensures)
     (carrying-le-carry (a .own .0) (a .window .0) (bounded (a .row) (a .bound .0)))
 
 smaller-requires : tie.Need-smaller-requires
@@ -53,14 +53,14 @@ smaller-requires c κs = search needs
 returns : tie.Need-returns
 unfolding room
 returns c =
-    let plain = c .before .before .before .before .before .before .before .plain-work .ensures in
-    let carry = c .before .before .before .before .before .before .carry-work .ensures in
-    let without = c .before .before .before .before .before .interference .ensures in
-    let carrying = c .before .before .before .before .interference2 .ensures in
+    let plain = c .before .before .before .before .before .before .before .before .plain-work .ensures in
+    let carry = c .before .before .before .before .before .before .before .carry-work .ensures in
+    let without = c .before .before .before .before .before .before .interference .ensures in
+    let carrying = c .before .before .before .before .before .interference2 .ensures in
     record {
       without = simp (without, plain);
       carrying = simp (carrying, carry);
-      roominess = simp (c .smaller .ensures, without, plain, carrying, carry, c .before .before .before .before .before .before .before .before .polls-in .ensures);
+      roominess = simp (c .smaller .ensures, without, plain, carrying, carry, c .before .before .before .before .before .before .before .before .before .polls-in .ensures);
     }
 
 pub load-of-spec : {M : Type 1} → statement M

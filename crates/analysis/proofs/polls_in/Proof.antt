@@ -9,18 +9,21 @@ use Rattle.analysis.proofs.polls_in.Tie as tie
 div-gaps : tie.Need-div-gaps
 div-gaps c = search needs
 
+-- no product or sum wraps: the work of the polls is at most the window and a poll
 mul-whole : tie.Need-mul-whole
 mul-whole c =
-    let gaps = mul-le-mul-left (c .args .window / c .args .gap) (c .pre .1) in
-    record { fits = omega (arith, gaps, div-mul-le-self (c .args .window) (c .args .gap)) }
+    let a = c .before .before .before .args in
+    let gaps = mul-le-mul-left (a .window .0 / a .gap .0) (c .before .before .before .pre .1) in
+    record { fits = omega (arith, gaps, div-mul-le-self (a .window .0) (a .gap .0)) }
 
-add-result : tie.Need-add-result
-add-result c =
-    let gaps = mul-le-mul-left (c .args .window / c .args .gap) (c .pre .1) in
-    record { fits = omega (arith, gaps, div-mul-le-self (c .args .window) (c .args .gap)) }
+add-t6 : tie.Need-add-t6
+add-t6 c =
+    let a = c .before .before .before .before .args in
+    let gaps = mul-le-mul-left (a .window .0 / a .gap .0) (c .before .before .before .before .pre .1) in
+    record { fits = omega (arith, gaps, div-mul-le-self (a .window .0) (a .gap .0)) }
 
 returns : tie.Need-returns
 returns c = search needs
 
 pub polls-in-spec : {M : Type 1} → statement M
-polls-in-spec = tie.close (tie.spec div-gaps mul-whole add-result returns)
+polls-in-spec = tie.close (tie.spec div-gaps mul-whole add-t6 returns)

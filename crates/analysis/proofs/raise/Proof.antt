@@ -50,7 +50,7 @@ module _ (carriers without carrying : ℕ) (old mosts : List ℕ) where
   last few i (suc m) h = rw (getD-set-other mosts 0 (suc m) (without + getD mosts 0 0) 0 (λ same. omega arith)) (i .done (suc m) (omega arith) h)
 
 abbrev Inv-loop : tie.InvT-loop
-Inv-loop mosts₀ carriers without carrying m₀ mosts m = In carriers without carrying mosts₀ mosts m
+Inv-loop mosts₀ carriers without carrying m₀ mosts m = In carriers (without .0) (carrying .0) mosts₀ mosts m
 
 abbrev μ-loop : tie.MeasureT-loop
 μ-loop mosts₀ carriers without carrying m₀ mosts m = m
@@ -72,9 +72,9 @@ element-copy-out-staying c = search needs
 
 add-staying : tie.Need-add-staying Inv-loop μ-loop
 add-staying c =
-    let i = c .before .before .loop .inv in
-    let m = c .before .before .loop .m in
-    record { fits = omega (arith, i .kept m (omega arith), c .before .before .before .pre .small m (omega arith)) }
+    let at = c .before .before .before in
+    let m = at .loop .m in
+    record { fits = omega (arith, at .loop .inv .kept m (omega arith), at .before .pre .small m (omega arith)) }
 
 sub-coming : tie.Need-sub-coming Inv-loop μ-loop
 sub-coming c = search needs
@@ -87,9 +87,9 @@ element-copy-out-coming c = search needs
 
 add-coming : tie.Need-add-coming Inv-loop μ-loop
 add-coming c =
-    let i = c .before .before .before .loop .inv in
-    let n = c .before .before .before .loop .m - 1 in
-    record { fits = omega (arith, i .kept n (omega arith), c .before .before .before .before .pre .small n (omega arith)) }
+    let at = c .before .before .before .before .before in
+    let n = at .loop .m - 1 in
+    record { fits = omega (arith, at .loop .inv .kept n (omega arith), at .before .pre .small n (omega arith)) }
 
 larger-requires : tie.Need-larger-requires Inv-loop μ-loop
 larger-requires c κs = search needs
@@ -108,31 +108,31 @@ loop-less c = search needs
 
 loop-again : tie.Need-loop-again Inv-loop μ-loop
 loop-again c =
-    let a = c .before .before .before .before .before .args in
-    let at = c .before .before .before .before .loop in
+    let a = c .before .before .before .before .before .before .before .args in
+    let at = c .before .before .before .before .before .before .loop in
     let m = at .m in
     rw (c .larger .ensures)
-    (turn (a .carriers) (a .without) (a .carrying) (a .mosts .now) (at .mosts) m (m - 1) (omega arith) (omega arith) (at .inv))
+    (turn (a .carriers) (a .without .0) (a .carrying .0) (a .mosts .now) (at .mosts) m (m - 1) (omega arith) (omega arith) (at .inv))
 
 element-copy-out-mosts : tie.Need-element-copy-out-mosts Inv-loop μ-loop
 element-copy-out-mosts c = search needs
 
 add-mosts : tie.Need-add-mosts Inv-loop μ-loop
 add-mosts c =
-    let i = c .before .before .loop .inv in
-    record { fits = omega (arith, i .kept 0 (omega arith), c .before .before .before .pre .small 0 (omega arith)) }
+    let at = c .before .before .before in
+    record { fits = omega (arith, at .loop .inv .kept 0 (omega arith), at .before .pre .small 0 (omega arith)) }
 
 element-write-mosts-2 : tie.Need-element-write-mosts-2 Inv-loop μ-loop
 element-write-mosts-2 c = search needs
 
 returns : tie.Need-returns Inv-loop μ-loop
 returns c =
-    let a = c .before .before .before .args in
-    let at = c .before .before .loop in
+    let a = c .before .before .before .before .args in
+    let at = c .before .before .before .loop in
     let over : at .m ≡ 0 = omega arith in
     record {
-      long = length-set (at .mosts) 0 (a .without + getD (at .mosts) 0 0) ∙ at .inv .long;
-      each = last (a .carriers) (a .without) (a .carrying) (a .mosts .now) (at .mosts) (omega arith) (rw over at (at .inv));
+      long = length-set (at .mosts) 0 (a .without .0 + getD (at .mosts) 0 0) ∙ at .inv .long;
+      each = last (a .carriers) (a .without .0) (a .carrying .0) (a .mosts .now) (at .mosts) (omega arith) (rw over at (at .inv));
     }
 
 pub raise-spec : {M : Type 1} → statement M

@@ -89,7 +89,7 @@ module _ (cores : ℕ) (table : Table) (bounds : List Ticks) (k own x : ℕ) (mo
       }
 
 abbrev Inv-loop : tie.InvT-loop
-Inv-loop cores k own window table bounds carriers mosts₀ rooms₀ i₀ mosts rooms i = In cores table bounds k (own .0) (window .0) mosts (rooms .count) (rooms .least) i
+Inv-loop cores k own window table bounds carriers mosts₀ rooms₀ i₀ mosts rooms i = In cores table bounds k (own .0) (window .0) mosts (rooms .count) (rooms .least .0) i
 
 abbrev μ-loop : tie.MeasureT-loop
 μ-loop cores k own window table bounds carriers mosts₀ rooms₀ i₀ mosts rooms i = k - i
@@ -168,30 +168,30 @@ loop-again c =
     let load = c .before .before .before .load-of in
     let raised = c .before .raise .ensures in
     turn (s .args .cores) (s .args .t2) (s .args .t3) (s .args .k) (s .args .own .0) (s .args .window .0) (at .mosts)
-    (at .rooms .count) (at .rooms .least) (at .i) (s .pre .0 .within) (omega arith) (at .inv)
-    (load .result .without) (load .result .carrying) (load .result .room) (load .ensures)
-    _ (c .with-room .result .count) (c .with-room .result .least) (raised .long)
+    (at .rooms .count) (at .rooms .least .0) (at .i) (s .pre .0 .within) (omega arith) (at .inv)
+    (load .result .without .0) (load .result .carrying .0) (load .result .room .0) (load .ensures)
+    _ (c .with-room .result .count) (c .with-room .result .least .0) (raised .long)
     (raised .each) (c .with-room .ensures .0) (c .with-room .ensures .1)
 
-mul-most : tie.Need-mul-most Inv-loop μ-loop
-mul-most c = search needs
+mul-total : tie.Need-mul-total Inv-loop μ-loop
+mul-total c = search needs
 
-array-read-most : tie.Need-array-read-most Inv-loop μ-loop
-array-read-most c = search needs
+array-read-total : tie.Need-array-read-total Inv-loop μ-loop
+array-read-total c = search needs
 
 returns : tie.Need-returns Inv-loop μ-loop
 returns c =
     let s = c .before .before .before .before in
     let at = c .before .before .before .loop in
     few-roomy (s .args .cores) (s .args .t2) (s .args .t3) (s .args .k) (s .args .own .0) (s .args .window .0) (at .mosts)
-    (at .rooms .count) (at .rooms .least) (at .i) (s .pre .0 .some-cores) (omega arith) (at .inv) (omega arith)
+    (at .rooms .count) (at .rooms .least .0) (at .i) (s .pre .0 .some-cores) (omega arith) (at .inv) (omega arith)
 
 returns-2 : tie.Need-returns-2 Inv-loop μ-loop
 returns-2 c =
-    let s = c .before .before .before .before in
-    let at = c .before .before .before .loop in
+    let s = c .before .before .before .before .before in
+    let at = c .before .before .before .before .loop in
     enough-roomy (s .args .cores) (s .args .t2) (s .args .t3) (s .args .k) (s .args .own .0) (s .args .window .0) (at .mosts)
-    (at .rooms .count) (at .rooms .least) (at .i) (s .pre .0 .some-cores) (omega arith) (at .inv) (omega arith)
+    (at .rooms .count) (at .rooms .least .0) (at .i) (s .pre .0 .some-cores) (omega arith) (at .inv) (omega arith)
 
 pub taken-above-spec : {M : Type 1} → statement M
 taken-above-spec =
@@ -212,7 +212,7 @@ taken-above-spec =
     add-i
     loop-less
     loop-again
-    mul-most
-    array-read-most
+    mul-total
+    array-read-total
     returns
     returns-2)

@@ -16,9 +16,9 @@ add-t5 c = search needs
 
 returns-2 : tie.Need-returns-2
 returns-2 c =
-    let a = c .before .before .before .args in
+    let a = c .before .before .before .before .args in
     let has = c .before .before .if1 .left in
-    (sym (count-some (a .room) (a .rooms .count) has), c .before .smaller .ensures ∙ sym (least-some (a .room) (a .rooms .least) has))
+    (sym (count-some (a .room .0) (a .rooms .count) has), c .before .smaller .ensures ∙ sym (least-some (a .room .0) (a .rooms .least .0) has))
 
 pub with-room-spec : {M : Type 1} → statement M
 with-room-spec = tie.close (tie.spec returns smaller-requires add-t5 returns-2)

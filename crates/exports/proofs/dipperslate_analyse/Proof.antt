@@ -1,4 +1,4 @@
--- dipperslate_analyse answers for its own rows what answer_into answers for the table that they make.
+-- dipperslate_analyse tells of its own rows what answer_for tells of the table that they make.
 use Prim.Native.Nat.{ℕ}
 use native.Mathlib.Omega.{arith}
 use mathlib.Core.Path.{_≡_, ap, _∙_}
@@ -8,12 +8,15 @@ use Rattle.quantities.specs.Table.{rowsOf}
 use Rattle.quantities.specs.declared.Row.{Row}
 use Rattle.quantities.specs.declared.Table.{Table}
 use Rattle.quantities.proofs.Rows.{length-rows}
-use Rattle.windows.specs.Answer.{Judged, judgedInto, paperOf, written}
+use Rattle.windows.specs.Answer.{Judged, judgedInto, paperOf}
 use Rattle.windows.specs.declared.Answer.{Answer}
 use Rattle.lentrows.specs.Loaded.{tableOf}
-use Rattle.lentrows.specs.Lent.{LentAnalysis}
+use Rattle.analysis.specs.Analysis.{numbers}
+use Rattle.lentrows.specs.Lent.{firstOf, toldOf}
+use Rattle.lentrows.specs.declared.Told.{Told}
 use Rattle.exports.specs.Exported.{rowsFrom, codeOf, FitsCode, Exported}
 use Rattle.lentrows.proofs.Loaded.{into-loaded}
+use Rattle.lentrows.proofs.Written.{told-fits, told-written}
 use Rattle.exports.proofs.Places.{into-place, loaded-count}
 use borrow.Author.Needs.{needs}
 use Rattle.exports.proofs.dipperslate_analyse.Statement.{statement}
@@ -29,39 +32,63 @@ module _ (cores entries : ℕ) (rows : List Row) (table : Table) (loads : table 
       rw (is, loads)
       (omega (arith, into-place cores entries (rowsOf (tableOf rows)), length-rows (tableOf rows), loaded-count (length rows) rows))
 
-  exported : (before after : List ℕ) (answer : Answer) (r : ℕ)
-      → LentAnalysis (judgedInto cores entries (rowsOf table)) before after answer → r ≡ codeOf (paperOf answer)
+  exported : (told : Told) → told ≡ toldOf (judgedInto cores entries (rowsOf table))
+      → (before after : List ℕ) → after ≡ firstOf (told .shown) (numbers (told .bounds)) before
+      → (r : ℕ) → r ≡ codeOf (paperOf (told .answer))
       → Exported (judgedInto cores entries rows) before after r
-  exported before after answer r lent is =
+  unfolding toldOf
+  exported told tells before after leaves r is =
+      let of-rows = tells ∙ ap toldOf same in
       record {
-        answers = is ∙ ap (λ (a : Answer). codeOf (paperOf a)) (lent .answers ∙ ap (λ (j : Judged). j .answer) same);
-        leaves = lent .leaves ∙ ap (λ (j : Judged). written j before) same;
+        answers = is ∙ ap (λ (t : Told). codeOf (paperOf (t .answer))) of-rows;
+        leaves = leaves ∙ told-written (judgedInto cores entries rows) told of-rows before;
       }
+
+-- the answer told is the one judged
+told-answer : (j : Judged) (told : Told) → told ≡ toldOf j → told .answer ≡ j .answer
+unfolding toldOf
+told-answer j told e = ap (λ (t : Told). t .answer) e
 
 load-requires : tie.Need-load-requires
 load-requires c κs = search needs
 
-answer-into-requires : tie.Need-answer-into-requires
-answer-into-requires c κs = search needs
+answer-for-requires : tie.Need-answer-for-requires
+answer-for-requires c κs = search needs
+
+write-bounds-requires : tie.Need-write-bounds-requires
+write-bounds-requires c κs =
+    let a = c .before .before .before .before .args in
+    let load = c .before .before .load in
+    let told = c .before .answer-for in
+    told-fits (a .cores) (length (a .bounds .now)) (rowsOf (load .result)) (told .result) (told .ensures)
 
 code-of-requires : tie.Need-code-of-requires
 code-of-requires c κs =
-    let a = c .before .before .before .before .before .before .args in
-    let load = c .before .before .before .before .load in
-    let into = c .before .before .answer-into in
-    answer-fits (a .cores) (length (a .bounds .now)) (rowsFrom (a .rows .now)) _ (load .ensures) _ (into .ensures .answers)
+    let told = c .before .before .before .before .answer-for in
+    let load = c .before .before .before .before .before .load in
+    let a = c .before .before .before .before .before .before .before .args in
+    answer-fits (a .cores) (length (a .bounds .now)) (rowsFrom (a .rows .now)) _ (load .ensures)
+    _ (told-answer _ _ (told .ensures))
 
 same-length : tie.Need-same-length
 same-length c = search needs
 
 returns : tie.Need-returns
 returns c =
-    let a = c .before .before .before .before .before .before .before .args in
-    let load = c .before .before .before .before .before .load in
-    let into = c .before .before .before .answer-into in
+    let wrote = c .before .before .before .write-bounds in
+    let told = c .before .before .before .before .before .answer-for in
+    let load = c .before .before .before .before .before .before .load in
+    let a = c .before .before .before .before .before .before .before .before .args in
     exported (a .cores) (length (a .bounds .now)) (rowsFrom (a .rows .now)) _ (load .ensures)
-    _ _ _ _ (into .ensures) (c .code-of .ensures)
+    _ (told .ensures) _ _ (wrote .ensures) _ (c .code-of .ensures)
 
 pub dipperslate-analyse-spec : {M : Type 1} → statement M
 dipperslate-analyse-spec =
-    tie.close (tie.spec load-requires answer-into-requires code-of-requires same-length returns)
+    tie.close
+    (tie.spec
+    load-requires
+    answer-for-requires
+    write-bounds-requires
+    code-of-requires
+    same-length
+    returns)

@@ -22,16 +22,15 @@ use contract.Running.{givenOf, tables, tablesOf}
 use sound.WpLaws.{FmC, fmOf, WpFn-mono}
 use types.Kit.{Given, Item, ‵, raw, _⊛_, some, later, given, ⋆, runs, anyQ, atRet, Sq, _$_, _∵_, !, qed, by, move, keep, use1, use2, use3, split, join, pick, learn, check, fsplit, fjoin, feqI, suffices, frame, await, updating, now as at-once, done}
 use types.Tokens.{lft-new, lft-end}
-use types.Run.{look, store, init, forget, stop, hop, from, load, lit, unit-lit, of-opd, bin, addr, and-then, no-more, assigns, assigns-last, land, first, skips, jumps, blocks, branches, returns, enter, alloc1, alloc0, params1, pass1, pass0, free1, free0, exec, Below, again, loops}
+use types.Part.{whole, sub, look-in}
+use types.Run.{look, store, init, forget, stop, hop, fld, from, load, lit, unit-lit, of-opd, bin, addr, and-then, no-more, assigns, assigns-last, land, first, skips, jumps, blocks, branches, returns, enter, alloc1, alloc0, params1, pass1, pass0, free1, free0, exec, Below, again, loops}
 use denote.Exit.{yes}
 use denote.RattleType.{owns}
 use denote.Laws.{Is, shows}
 use denote.Memory.{pointee}
-use denote.Plain.{uint-vals, uint-tells, uint-makes}
 use denote.Ref.{RefT, MutRef, ptr-vals, mut-tells}
 use denote.Lend.{LentAgain, lends-again, comes-back}
 use denote.Signature.{plain}
-use denote.Builtin.{u64}
 use denote.Struct.Laws as LL
 use denote.Steps.{owned, peeks, nothing}
 use denote.Triple.Statement.{Contract, Triple}
@@ -44,8 +43,11 @@ use denote.Triple.Walked.{says, Stays, stay-ref, stay-none, walkOf, Walks, ends-
 use Rattle.bench.specs.History.{after}
 use Rattle.bench.specs.Step.{tick as tickStep}
 use Rattle.bench.specs.declared.Bench.{Bench}
+use Rattle.quantities.specs.declared.Ticks.{Ticks}
 use Rattle.lentbench.specs.Lent.{LentTick, ticksFor}
 use Rattle.lentbench.specs.declared.TickAnswer.{TickAnswer}
+use Rattle.quantities.proofs.Ticks as K
+use Rattle.quantities.proofs.Ticks.Laws as K′
 use Rattle.bench.proofs.Bench as T
 use Rattle.bench.proofs.Bench.Laws as T′
 use Rattle.lentbench.proofs.TickAnswer as N
@@ -90,7 +92,11 @@ more =
     (assign (place 3 []) (op2 (add unsigned) (copy (place 3 [])) (int w64 1))))
 
 abbrev stayed : Stays (run.ended .signature .params) (run.ended .kept)
-stayed = (stay-ref (0 ∷ []) tt (plain (λ _. T.the-row)), (stay-none (λ _. u64) yes, tt))
+stayed = (stay-ref (0 ∷ []) tt (plain (λ _. T.the-row)), (stay-none (λ _. K.the-row) yes, tt))
+
+-- the machine value of a length
+abbrev machK : Ticks → Val
+machK t = LL.val K.the-type K′.the-laws t
 
 abbrev Typed : Val → Type 0
 Typed v = Holds (hasTy N′.mir v) × WT v
@@ -100,7 +106,13 @@ module _ {M : Type 1} (𝓤 : URA M) (H : Heap 𝓤) (A : Atoms 𝓤) (mem : Mem
   Tick = tripleOf 𝓤 H A tick.signature (tick.spec 𝓤 H A mem run-of)
 
 module _ {M : Type 1} (𝓤 : URA M) (H : Heap 𝓤) (A : Atoms 𝓤) (W : Given 𝓤 H A) (mem : Memory → SProp 𝓤) (run-of : Routine → Fun 𝓤)
-    (κ : Lft) (q : Share) (b o : ℕ) (γ : GName) (h : Bench) (n : ℕ) (gn : n < 2 ^ 64) where
+    (κ : Lft) (q : Share) (b o : ℕ) (γ : GName) (h : Bench) (ticks : Ticks) (gk : Is K.the-row ticks (machK ticks ∷ [])) where
+  abbrev n : ℕ
+  n = ticks .0
+
+  gn : n < 2 ^ 64
+  gn = LL.owed K.the-type K′.the-laws ticks (machK ticks ∷ []) gk .0 .1
+
   -- a reference to the bench under a name, at a value, and what it owns
   abbrev ref : GName → Bench → RefT Bench
   ref δ y = record { ptr = (b, o); name = δ; now = y }
@@ -109,10 +121,10 @@ module _ {M : Type 1} (𝓤 : URA M) (H : Heap 𝓤) (A : Atoms 𝓤) (W : Given
   own-at κ′ δ y = MutRef (named 0) κ′ T.the-row .own (ref δ y) (vptr b o ∷ [])
 
   abbrev at : Vals run.signature (κ, tt)
-  at = (vptr b o ∷ [], (vint w64 n ∷ [], tt))
+  at = (vptr b o ∷ [], (machK ticks ∷ [], tt))
 
   abbrev bound : walkOf 𝓤 H A run.ended stayed (run.clauses 𝓤 H A mem run-of) .Ghost
-  bound = (((κ, tt), (q, tt), tt, (ref γ h, (n, tt)), at), tt)
+  bound = (((κ, tt), (q, tt), tt, (ref γ h, (ticks, tt)), at), tt)
 
   abbrev Post : Val → SProp 𝓤
   Post = walkOf 𝓤 H A run.ended stayed (run.clauses 𝓤 H A mem run-of) .post bound
@@ -122,7 +134,7 @@ module _ {M : Type 1} (𝓤 : URA M) (H : Heap 𝓤) (A : Atoms 𝓤) (W : Given
       qed W (‵ (flft κ q) ∷ ‵ (own-at κ γ y) ∷ []) ∵
       suffices ! _ (ends-at 𝓤 H A run.ended stayed (run.clauses 𝓤 H A mem run-of) W bound vunit tt (y, (tt, tt)) (tt, (tt, tt))) $ says ! e $
       nothing ! $ move ! (1 ∷ 0 ∷ []) $ join ! $ frame ! $
-      nothing ! $ owned ! u64 (Is u64) (uint-makes 𝓤 H A W w64) n (vint w64 n ∷ []) (refl, gn) $ fjoin ! $ move ! (1 ∷ 0 ∷ []) $ fjoin ! $
+      nothing ! $ owned ! K.the-row (Is K.the-row) (LL.makes K.the-type K′.the-plain 𝓤 H A) ticks (machK ticks ∷ []) gk $ fjoin ! $ move ! (1 ∷ 0 ∷ []) $ fjoin ! $
       feqI ! (List Val) (vunit ∷ []) (vunit ∷ []) refl $ move ! (1 ∷ 0 ∷ []) $ done !
 
   -- the bench goes to `tick` for a lifetime α, under a name δ, and its last value comes back under that name
@@ -177,12 +189,12 @@ module _ {M : Type 1} (𝓤 : URA M) (H : Heap 𝓤) (A : Atoms 𝓤) (W : Given
 
     module _ (l₀ l₁ l₂ l₃ l₄ l₅ l₆ : ℕ) where
       abbrev En : Env 𝓤 H
-      En = (tyUnit, l₀) ∷ (lent, l₁) ∷ (word, l₂) ∷ (word, l₃) ∷ (tyBool, l₄) ∷ (N′.mir, l₅) ∷ (again-lent, l₆) ∷ []
+      En = (tyUnit, l₀) ∷ (lent, l₁) ∷ (K′.mir, l₂) ∷ (word, l₃) ∷ (tyBool, l₄) ∷ (N′.mir, l₅) ∷ (again-lent, l₆) ∷ []
 
       abbrev At : Upto → List (Item 𝓤)
       At i =
           ‵ (froom again-lent l₆ 0) ∷ ‵ (fdies again-lent l₆) ∷ ‵ (froom N′.mir l₅ 0) ∷ ‵ (fdies N′.mir l₅) ∷ ‵ (froom tyBool l₄ 0) ∷ ‵ (fdies tyBool l₄)
-          ∷ ‵ (fat fullShare word l₃ 0 (vint w64 (i .0))) ∷ ‵ (fdies word l₃) ∷ ‵ (fat fullShare word l₂ 0 (vint w64 n)) ∷ ‵ (fdies word l₂)
+          ∷ ‵ (fat fullShare word l₃ 0 (vint w64 (i .0))) ∷ ‵ (fdies word l₃) ∷ ‵ (fat fullShare K′.mir l₂ 0 (machK ticks)) ∷ ‵ (fdies K′.mir l₂)
           ∷ ‵ (fat fullShare lent l₁ 0 (vptr b o)) ∷ ‵ (fdies lent l₁) ∷ ‵ (froom tyUnit l₀ 0) ∷ ‵ (fdies tyUnit l₀) ∷ ‵ (flft κ q) ∷ ‵ (own-at κ γ (bench-at (i .0))) ∷ []
 
       abbrev Turned : Upto → Out → SProp 𝓤
@@ -191,7 +203,7 @@ module _ {M : Type 1} (𝓤 : URA M) (H : Heap 𝓤) (A : Atoms 𝓤) (W : Given
       turns : (i : Upto) → Sq W (At i) (runs C Λ En pieces.turn-1 (anyQ (Turned i)))
       unfolding afterTurn
       turns i =
-          assigns ! (bin ! (load ! (from ! (stop !)) (look ! 6 refl)) (load ! (from ! (stop !)) (look ! 8 refl)) tt) (from ! (stop !)) (init ! 4 refl (tt, tt)) $
+          assigns ! (bin ! (load ! (from ! (stop !)) (look ! 6 refl)) (load ! (from ! (fld ! refl (stop !))) (look-in ! 8 (sub ! 0 refl (whole !)))) tt) (from ! (stop !)) (init ! 4 refl (tt, tt)) $
           first ! $ branches ! (load ! (from ! (stop !)) (look ! 4 refl))
           (λ less. skips ! $ exec ! C Λ En more (anyQ (Turned i)) $
           -- [_6; …; _5; …; _4; …; _3; …; _2; …; _1; …; _0; …; the token; what the bench's reference owns]
@@ -228,14 +240,14 @@ module _ {M : Type 1} (𝓤 : URA M) (H : Heap 𝓤) (A : Atoms 𝓤) (W : Given
       looped : (i : Upto) → Sq W (At i) (runs C Λ En pieces.t-2 (atRet En Post))
       looped i = first ! $ blocks ! $ loops ! 𝓣 Nearer Nearer-wf At turns i
 
-    walk : ent 𝓤 (onEntry 𝓤 H A run.signature (κ, tt) (q, tt) (ref γ h, (n, tt)) at) (WpFn 𝓤 H C Λ code.function (vptr b o ∷ vint w64 n ∷ []) Post)
+    walk : ent 𝓤 (onEntry 𝓤 H A run.signature (κ, tt) (q, tt) (ref γ h, (ticks, tt)) at) (WpFn 𝓤 H C Λ code.function (vptr b o ∷ machK ticks ∷ []) Post)
     walk =
-        qed W ((‵ (flft κ q) ⊛ ‵ ftrue) ∷ ‵ (owns (MutRef (named 0) κ T.the-row ∷ u64 ∷ []) (ref γ h, (n, tt)) at) ∷ []) ∵ enter ! C Λ code.function (vptr b o ∷ vint w64 n ∷ []) _ $
+        qed W ((‵ (flft κ q) ⊛ ‵ ftrue) ∷ ‵ (owns (MutRef (named 0) κ T.the-row ∷ K.the-row ∷ []) (ref γ h, (ticks, tt)) at) ∷ []) ∵ enter ! C Λ code.function (vptr b o ∷ machK ticks ∷ []) _ $
         alloc1 ! (λ l₀. alloc1 ! (λ l₁. alloc1 ! (λ l₂. alloc1 ! (λ l₃. alloc1 ! (λ l₄. alloc1 ! (λ l₅. alloc1 ! (λ l₆. alloc0 ! $ params1 ! $
-        pass1 ! (init ! 10 refl (tt, tt)) $ pass1 ! (init ! 8 refl (tt, record { fits = gn })) $ pass0 ! $
+        pass1 ! (init ! 10 refl (tt, tt)) $ pass1 ! (init ! 8 refl (LL.lawful K.the-type K′.the-laws 𝓤 H A W .typed ticks _ gk .0)) $ pass0 ! $
         assigns ! (of-opd ! (lit ! tt)) (from ! (stop !)) (init ! 6 refl (tt, record { fits = lit< tt })) $
         move ! (15 ∷ []) $ fsplit ! $ move ! (16 ∷ []) $ split ! $
-        -- [the token; true; what the bench's reference owns; n's; _6; …; _5; …; _4; …; _3; …; _2; …; _1; …; _0; …]
+        -- [the token; true; what the bench's reference owns; what ticks owns; _6; …; _5; …; _4; …; _3; …; _2; …; _1; …; _0; …]
         move ! (2 ∷ []) $ use1 W (‵ (own-at κ γ (bench-at 0))) (starts) $
         keep ! (4 ∷ 5 ∷ 6 ∷ 7 ∷ 8 ∷ 9 ∷ 10 ∷ 11 ∷ 12 ∷ 13 ∷ 14 ∷ 15 ∷ 16 ∷ 17 ∷ 1 ∷ 0 ∷ []) $
         looped l₀ l₁ l₂ l₃ l₄ l₅ l₆ (0, zero-le))))))))
@@ -246,12 +258,12 @@ module _ {M : Type 1} (𝓤 : URA M) (H : Heap 𝓤) (A : Atoms 𝓤) (W : Given
 module _ {M : Type 1} (𝓤 : URA M) (H : Heap 𝓤) (A : Atoms 𝓤) (W : Given 𝓤 H A) (mem : Memory → SProp 𝓤) (run-of : Routine → Fun 𝓤) (𝓣 : Tables 𝓤 H)
     (known : Triple 𝓤 (𝓣 .C #lentbench·tick) (Tick 𝓤 H A mem run-of)) where
   run-walks : Walks 𝓤 H A run.ended stayed (WpFn 𝓤 H (𝓣 .C) (𝓣 .Λ) code.function) (run.clauses 𝓤 H A mem run-of)
-  run-walks = walked 𝓤 H A run.ended stayed (run.clauses 𝓤 H A mem run-of) (WpFn 𝓤 H (𝓣 .C) (𝓣 .Λ) code.function) (λ κs. (ptr-vals, (uint-vals w64, tt))) (λ κs. (mut-tells (named 0) (κs .0) T.the-row, (uint-tells w64, tt)))
+  run-walks = walked 𝓤 H A run.ended stayed (run.clauses 𝓤 H A mem run-of) (WpFn 𝓤 H (𝓣 .C) (𝓣 .Λ) code.function) (λ κs. (ptr-vals, (LL.vals K.the-type K′.the-laws, tt))) (λ κs. (mut-tells (named 0) (κs .0) T.the-row, (LL.tells K.the-type K′.the-laws, tt)))
       (λ κs qs bounds a g are. via 𝓤 _ (fst∗ 𝓤 _ (emp 𝓤))
-      (walk 𝓤 H A W mem run-of (κs .0) (qs .0) (a .0 .ptr .0) (a .0 .ptr .1) (a .0 .name) (a .0 .now) (a .1 .0) (are .1 .0 .1) 𝓣 known))
+      (walk 𝓤 H A W mem run-of (κs .0) (qs .0) (a .0 .ptr .0) (a .0 .ptr .1) (a .0 .name) (a .0 .now) (a .1 .0) (are .1 .0) 𝓣 known))
 
   run-meets : Meets 𝓤 H A run.signature (WpFn 𝓤 H (𝓣 .C) (𝓣 .Λ) code.function) (run.spec 𝓤 H A mem run-of)
-  run-meets = walk-meets 𝓤 H A run.ended stayed W (goes-ref 𝓤 H A W 1 0 tt (plain (λ _. T.the-row)), (goes-none 𝓤 H A W 1 (λ _. u64) yes (λ κs x f. refl), tt)) (run.clauses 𝓤 H A mem run-of) (WpFn 𝓤 H (𝓣 .C) (𝓣 .Λ) code.function) (WpFn-mono 𝓤 H (W .laws) 𝓣 code.function) run-walks
+  run-meets = walk-meets 𝓤 H A run.ended stayed W (goes-ref 𝓤 H A W 1 0 tt (plain (λ _. T.the-row)), (goes-none 𝓤 H A W 1 (λ _. K.the-row) yes (λ κs x f. refl), tt)) (run.clauses 𝓤 H A mem run-of) (WpFn 𝓤 H (𝓣 .C) (𝓣 .Λ) code.function) (WpFn-mono 𝓤 H (W .laws) 𝓣 code.function) run-walks
 
 pub run-spec : {M : Type 1} → stated.statement M
 unfolding code.routine tablesOf
