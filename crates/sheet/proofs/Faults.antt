@@ -3,16 +3,16 @@ use Prim.Native.Nat.{ℕ, zero, suc, _+_, _<_}
 use native.Mathlib.Omega.{arith}
 use mathlib.Core.Path.{_≡_, refl, sym, ap, _∙_}
 use mathlib.Core.Bool.{Bool, true, false}
-use mathlib.Core.List.{List}
+use mathlib.Core.List.{List, [], _∷_}
 use mathlib.Core.Option.{Option, none, some}
 use lib.ListN.{length, drop, length-drop}
 use Rattle.laws.specs.Each.{Each}
-use Rattle.quantities.specs.Checks.{Check, firstFailing, FirstFailing}
+use Rattle.quantities.specs.Checks.{Check, check, firstFailing, FirstFailing}
 use Rattle.quantities.proofs.Sound.{none-fails, none-found, first-failing, first-found}
 use Rattle.records.specs.Records.{isEnd}
 use Rattle.records.specs.declared.Record.the-variants.{Missing}
 use Rattle.records.proofs.Records.{missing-empty}
-use Rattle.sheet.specs.Checks.{verdictOf}
+use Rattle.sheet.specs.Checks.{recordChecks, verdictOf}
 use Rattle.sheet.specs.Reader.{newReading, refused, whole, readOf}
 use Rattle.sheet.specs.Faults.{recordAt, checksAt, ReadTo, start, next, FirstFault, FaultAt}
 use Rattle.sheet.specs.declared.Reading.{Reading}
@@ -27,13 +27,13 @@ pub verdict-none : (checks : List Check) → Each (λ one. one .fails ≡ false)
 unfolding verdictOf
 verdict-none checks passed = rw (none-found checks passed, verdictOf)
 
-verdict-first : (checks : List Check) (one : Check) → FirstFailing checks one
+pub verdict-first : (checks : List Check) (one : Check) → FirstFailing checks one
     → verdictOf checks ≡ Refused (one .number) (one .place)
 unfolding verdictOf
 verdict-first checks one first = rw (first-found checks one first, verdictOf)
 
 -- A refusal's parts.
-same-refusal : (a b number place : ℕ) → Refused a b ≡ Refused number place → (a ≡ number) × (b ≡ place)
+pub same-refusal : (a b number place : ℕ) → Refused a b ≡ Refused number place → (a ≡ number) × (b ≡ place)
 same-refusal a b number place e = (cc, cc)
 
 -- What a verdict says of the checks: none fails, or the first that does has its number and its place.
@@ -72,7 +72,7 @@ module _ (sheet : List ℕ) where
       turn-on sheet reading at (read-to before) (verdict-none (checksAt sheet reading at) passed) last
 
   -- where no byte stands, the place is the sheet's length
-  pub missing-at-end : (reading : Reading) (at : ℕ) → ReadTo sheet reading at → recordAt sheet at ≡ Missing
+  missing-at-end : (reading : Reading) (at : ℕ) → ReadTo sheet reading at → recordAt sheet at ≡ Missing
       → at ≡ length sheet
   missing-at-end reading at before e =
       let none = missing-empty (drop at sheet) e in
@@ -85,6 +85,17 @@ module _ (sheet : List ℕ) where
       let at = fault .at in
       let verdict = verdict-first (checksAt sheet reading at) one (fault .first) in
       sym (turn-refused sheet reading at (read-to (fault .before)) (one .number) (one .place) verdict)
+
+  -- no byte where a record should start
+  pub missing-refused : (reading : Reading) (at : ℕ) → ReadTo sheet reading at → recordAt sheet at ≡ Missing
+      → readOf sheet ≡ refused 11 (length sheet)
+  unfolding recordChecks
+  missing-refused reading at before e =
+      let checks : checksAt sheet reading at ≡ check 11 at true ∷ [] = rw e refl in
+      let first : FirstFailing (checksAt sheet reading at) (check 11 at true) =
+      record { before = []; after = []; stands = checks; failed = refl; passed = tt } in
+      first-fault-refused (check 11 at true) (record { reading = reading; at = at; before = before; first = first })
+      ∙ ap (refused 11) (missing-at-end reading at before e)
 
   -- A refused sheet: the records are read in turn, until one has a check that fails.
   module _ (number place : ℕ) (e : readOf sheet .verdict ≡ Refused number place) where

@@ -17,7 +17,7 @@ use Rattle.sheet.specs.declared.Verdict.{Verdict}
 use Rattle.sheet.specs.declared.Verdict.the-variants.{Sound, Refused}
 use Rattle.sheet.specs.declared.Outcome.{Outcome}
 use Rattle.sheet.proofs.Sheets.{board-sheet, entries-of-sheet}
-use Rattle.sheet.proofs.Faults.{missing-at-end, first-fault-refused, refused-first-fault}
+use Rattle.sheet.proofs.Faults.{missing-refused, first-fault-refused, refused-first-fault}
 use Rattle.sheet.proofs.Tables.{table-rows}
 use Rattle.sheet.proofs.Whole.{length-entries}
 use Rattle.sheet.proofs.Sound.{sound-made}
@@ -91,7 +91,7 @@ pub no-table-refused : NoTableRefused
 no-table-refused = refused-no-table
 
 pub missing-at-the-end : MissingAtTheEnd
-missing-at-the-end = missing-at-end
+missing-at-the-end sheet reading at before e = missing-refused sheet reading at before e
 
 pub faulty-sheet-turned-away : FaultySheetTurnedAway
 unfolding refused paperOf

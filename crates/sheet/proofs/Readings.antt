@@ -61,7 +61,7 @@ entries-more tick [] more = refl
 entries-more tick (first ∷ rows) more =
     ap (λ (es : List Entry). entryOf tick (rowFields first) ∷ es) (entries-more tick rows more)
 
-entered-more : (new : Entry) (all entries : List Entry) → Permuted all entries
+pub entered-more : (new : Entry) (all entries : List Entry) → Permuted all entries
     → Permuted (all ++ new ∷ []) (inserted new entries)
 entered-more new all entries p =
     let front : Permuted (new ∷ all) (all ++ new ∷ []) =

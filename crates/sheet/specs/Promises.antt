@@ -65,11 +65,11 @@ FaultySheetTurnedAway =
     (sheet : List ℕ) (one : Check) → FirstFault sheet one
     → (paperOf (readOf sheet .verdict) ≡ paper (one .number) (one .place)) × (readOf sheet .sheet ≡ noSheet)
 
--- Where no byte stands, the place is the sheet's length.
+-- Where no byte stands, the sheet is refused by 11, and the place is its length.
 abbrev pub MissingAtTheEnd : Type 0
 MissingAtTheEnd =
     (sheet : List ℕ) (reading : Reading) (at : ℕ)
-    → ReadTo sheet reading at → recordAt sheet at ≡ Missing → at ≡ length sheet
+    → ReadTo sheet reading at → recordAt sheet at ≡ Missing → readOf sheet ≡ refused 11 (length sheet)
 
 -- And a sheet that is refused has that fault.
 abbrev pub RefusedByFirstFault : Type 0
