@@ -1,26 +1,47 @@
--- No fake passes: one board of two rows shows up the judges, one sheet of two rows the reader.
-use Prim.Native.Nat.{ℕ, _<_}
+-- No fake passes: a board of two rows shows up the judges, a sheet the readers, document 01's sheet the tool.
+use Prim.Native.Nat.{ℕ}
 use native.Mathlib.Omega.{arith}
 use mathlib.Core.Path.{_≡_, refl, sym, ap, _∙_}
-use mathlib.Core.List.{List, [], _∷_}
-use lib.ListN.{replicate}
+use mathlib.Core.List.{List, [], _∷_, _++_}
+use lib.ListN.{getD, replicate}
 use Rattle.quantities.specs.declared.Row.{Row}
 use Rattle.quantities.specs.Row.{rowOf}
-use Rattle.quantities.specs.Checks.{rowChecks, rowsChecks, listChecks, firstFailing, faultFrom, listFault, SoundList}
-use Rattle.quantities.proofs.Sound.{sound-list-means}
+use Rattle.quantities.specs.Checks.{rowChecks, rowsChecks, listChecks, firstFailing, faultFrom, listFault}
+use Rattle.quantities.specs.Table.{rowsOf, emptyTable, withRow}
 use Rattle.windows.specs.declared.Answer.the-variants.{Shown}
 use Rattle.windows.specs.Window.{plain, carry, limit, interference}
 use Rattle.windows.specs.Choice.{most, passes}
 use Rattle.windows.specs.Least.{firstOf, least}
 use Rattle.windows.specs.Bound.{window, boundsBelow}
 use Rattle.windows.specs.Answer.{Judged, verdict, judgedAfter, judged}
-use Rattle.windows.proofs.Judgement.{judged-means, one-judgement}
 use Rattle.records.specs.Bytes.{numberAfter, field}
-use Rattle.records.specs.Records.{recordLength, rowFields}
-use Rattle.sheet.specs.Entries.{ticksOf, entryOf, used}
-use Rattle.sheet.specs.Whole.{entriesOn, bytesOf, MadeOf}
-use Rattle.promises.specs.Promises.{Demand2For}
-use Rattle.promises.specs.Fakes.{Judge, Reader, TurnsEverythingAway, TakesNoSheet, AnswersTheCost, WritesNoBounds, KeepsSheetOrder, FakesCaught}
+use Rattle.records.specs.Records.{recordLength, rowFields, wholeRecord, recordOn, kindOf, isEnd}
+use Rattle.sheet.specs.Entries.{ticksOf, entryOf, boardSheet, entriesOf, used, inserted, withEntry, tableWith, tableOf}
+use Rattle.sheet.specs.Checks.{misplaced, boardChecks, endChecks, recordChecks, verdictOf}
+use Rattle.sheet.specs.Checks.{rowChecks as recordRowChecks}
+use Rattle.sheet.specs.Reader.{noSheet, newReading, afterRecord, refused, whole, readFrom, readOf}
+use Rattle.lines.specs.Words.{ascii}
+use Rattle.lines.specs.Decimal.{digitsIn, decimal}
+use Rattle.lines.specs.Lines.{firstLine, rowLine, rowLines, shownLine}
+use Rattle.text.specs.Text.{judgedText, boundLines}
+use Rattle.text.specs.Cases.{sheet-of-document}
+use Rattle.promises.specs.Lists.{ListInRange}
+use Rattle.promises.specs.Sheets.{WholeWith}
+use Rattle.promises.specs.Lent.{Lending}
+use Rattle.promises.specs.Promises.{Reader, Judge, Tool, Demand2For}
+use Rattle.promises.specs.Fakes.{
+  TurnsEverythingAway,
+  TakesNoSheet,
+  AnswersTheCost,
+  writesNoBounds,
+  AnswersNoBounds,
+  KeepsSheetOrder,
+  judgesInOrder,
+  AsTheRecordsStand,
+  FakesCaught,
+}
+use Rattle.promises.proofs.Windows.{judged-right, one-judgement-by-rules}
+use Rattle.promises.proofs.Tool.{one-text-printed}
 
 -- one core and two rows of document 01, of which the second has the bound 3 and the cost 2
 abbrev two : List Row
@@ -29,82 +50,136 @@ two = rowOf 1 4 4 ∷ rowOf 2 6 6 ∷ []
 abbrev answer : Judged
 answer = record { answer = Shown; bounds = 1 ∷ 3 ∷ [] }
 
-two-sound : SoundList 1 two
-unfolding rowChecks rowsChecks listChecks firstFailing faultFrom listFault
-two-sound = sound-list-means 1 two .0 refl
+two-in-range : ListInRange 1 two
+two-in-range =
+    record {
+      some-cores = omega arith;
+      few-cores = omega arith;
+      rows-in-range =
+          record {
+            some-rows = omega arith;
+            few-rows = omega arith;
+            each = (
+              record { some-work = omega arith; in-time = omega arith; in-gap = omega arith; short-gap = omega arith },
+              (record { some-work = omega arith; in-time = omega arith; in-gap = omega arith; short-gap = omega arith }, tt),
+            );
+          };
+    }
 
 two-judged : judged 1 two ≡ answer
 unfolding rowChecks rowsChecks listChecks firstFailing faultFrom listFault plain carry limit interference
     most passes firstOf least window boundsBelow verdict judgedAfter judged
 two-judged = refl
 
--- a judge that meets demand 2 answers so
-must-answer : (read : Reader) (judge : Judge) → Demand2For read judge → judge 1 two ≡ answer
-must-answer read judge demand =
-    one-judgement 1 two (judge 1 two) (judged 1 two) (demand .least 1 two two-sound) (judged-means 1 two two-sound)
-    ∙ two-judged
-
-turns-away : (read : Reader) (judge : Judge) → Demand2For read judge → TurnsEverythingAway judge → ⊥
-turns-away read judge demand fake = fake 1 two (ap (λ (j : Judged). j .answer) (must-answer read judge demand))
-
-answers-cost : (read : Reader) (judge : Judge) → Demand2For read judge → AnswersTheCost judge → ⊥
-answers-cost read judge demand fake =
-    let second = rw (must-answer read judge demand) at (fake 1 two 1) in
-    let same : _≡_ {A = ℕ} 3 2 = second (omega arith) in
-    omega arith
-
-writes-none : (read : Reader) (judge : Judge) → Demand2For read judge → WritesNoBounds judge → ⊥
-writes-none read judge demand fake =
-    let is = ap (λ (j : Judged). j .bounds) (must-answer read judge demand) in
-    let z : _≡_ {A = ℕ} 0 1 = cc (sym is ∙ fake 1 two) in
-    omega arith
-
--- a sheet with the row of priority 10 before that of priority 2
-abbrev board : List ℕ
-board = 1 ∷ 2 ∷ 0 ∷ 100 ∷ []
-
+-- two sheets: one with the row of priority 10 before that of priority 2, and that of document 01
 abbrev rowWith : ℕ → List ℕ
 rowWith priority = 2 ∷ 0 ∷ 7 ∷ 0 ∷ priority ∷ replicate 12 0
 
-abbrev rows : List (List ℕ)
-rows = rowWith 10 ∷ rowWith 2 ∷ []
+abbrev falling : List ℕ
+falling = (1 ∷ 2 ∷ 0 ∷ 100 ∷ []) ++ rowWith 10 ++ rowWith 2 ++ (3 ∷ 2 ∷ [])
 
-abbrev end : List ℕ
-end = 3 ∷ 2 ∷ []
+infixr 4 _&_
+_&_ : {A B : Type 0} → A → B → A × B
+a & b = (a, b)
 
-made : MadeOf (bytesOf board rows end)
-unfolding recordLength field numberAfter rowFields ticksOf entryOf entriesOn used
-made =
+whole-falling : WholeWith falling 2
+whole-falling =
     record {
-      board = board;
-      rows = rows;
-      end = end;
-      made = refl;
-      in-order =
-          record {
-            board-first = record { of-kind = refl; in-full = refl };
-            some-tick = omega arith;
-            then-rows =
-                (record { of-kind = refl; in-full = refl }, (record { of-kind = refl; in-full = refl }, tt));
-            few-rows = omega arith;
-            permitted =
-                (record { filled = omega arith; in-range = omega arith }, (record { filled = omega arith; in-range = omega arith }, tt));
-            different = (refl, (refl, tt));
-            end-last = record { of-kind = refl; in-full = refl };
-            counted = refl;
-          };
+      rows-pass = (
+        (
+          refl & refl & refl & refl & refl & tt,
+          refl & refl & refl & refl & refl & refl & refl & tt,
+          refl,
+        ),
+        refl & refl & refl & refl & refl & refl & refl & tt,
+        refl,
+      );
+      end-passes = refl & refl & refl & refl & refl & refl & tt;
+      is-end = refl;
     }
 
-takes-none : (read : Reader) (judge : Judge) → Demand2For read judge → TakesNoSheet read → ⊥
-takes-none read judge demand fake = fake (bytesOf board rows end) (demand .taken (bytesOf board rows end) made)
+abbrev of-document : List ℕ
+of-document =
+    (1 ∷ 2 ∷ 0 ∷ 100 ∷ [])
+    ++ (2 ∷ 0 ∷ 101 ∷ 0 ∷ 1 ∷ 0 ∷ 0 ∷ 0 ∷ 200 ∷ 0 ∷ 0 ∷ 1 ∷ 244 ∷ 0 ∷ 0 ∷ 1 ∷ 244 ∷ [])
+    ++ (2 ∷ 0 ∷ 110 ∷ 0 ∷ 10 ∷ 0 ∷ 0 ∷ 0 ∷ 200 ∷ 0 ∷ 0 ∷ 1 ∷ 144 ∷ 0 ∷ 0 ∷ 3 ∷ 232 ∷ [])
+    ++ (2 ∷ 0 ∷ 102 ∷ 0 ∷ 2 ∷ 0 ∷ 0 ∷ 1 ∷ 44 ∷ 0 ∷ 0 ∷ 3 ∷ 32 ∷ 0 ∷ 0 ∷ 3 ∷ 32 ∷ [])
+    ++ (3 ∷ 3 ∷ [])
 
-keeps-order : (read : Reader) (judge : Judge) → Demand2For read judge → KeepsSheetOrder read → ⊥
-unfolding field numberAfter rowFields entryOf entriesOn made
-keeps-order read judge demand fake =
-    let rises = rw (fake (bytesOf board rows end) made) at (demand .rising (bytesOf board rows end)) in
-    let down : 10 < 2 = rises .0 .0 in
-    omega arith
+-- what a tool prints for it that judges the rows as the records stand: bound 2 for the row of priority 2
+crossed : (order : List Row → List Row) → AsTheRecordsStand order
+    → judgesInOrder order of-document
+    ≡ ascii "cores 2 tick 100 rows 3\n1 101 2 5\n2 102 2 8\n3 110 5 4\nall shown\n"
+unfolding judgedText boundLines firstLine rowLine rowLines shownLine decimal digitsIn readOf readFrom newReading
+    noSheet boardSheet recordOn recordLength kindOf isEnd wholeRecord rowFields field numberAfter recordChecks misplaced
+    boardChecks recordRowChecks endChecks verdictOf afterRecord withEntry inserted entriesOf entryOf ticksOf used whole
+    refused tableOf tableWith withRow emptyTable rowsOf rowChecks rowsChecks listChecks firstFailing faultFrom listFault
+    plain carry limit interference most passes firstOf least window boundsBelow verdict judgedAfter judged
+crossed order stands = rw (stands) refl
 
-pub fakes-caught : FakesCaught
-fakes-caught =
-    record { turns-away = turns-away; takes-none = takes-none; answers-cost = answers-cost; writes-none = writes-none; keeps-order = keeps-order }
+module _ (read : Reader) (judge : Judge) (lend : Lending) (tool : Tool) where
+  -- a judge that meets demand 2 answers so
+  must-answer : Demand2For read judge lend tool → judge 1 two ≡ answer
+  must-answer demand =
+      one-judgement-by-rules 1 two (judge 1 two) (judged 1 two)
+      (demand .lists 1 two two-in-range) (judged-right 1 two two-in-range)
+      ∙ two-judged
+
+  turns-away : Demand2For read judge lend tool → TurnsEverythingAway judge → ⊥
+  turns-away demand fake = fake 1 two (ap (λ (j : Judged). j .answer) (must-answer demand))
+
+  takes-none : Demand2For read judge lend tool → TakesNoSheet read → ⊥
+  takes-none demand fake = fake falling (demand .sheets falling 2 whole-falling .0)
+
+  answers-cost : Demand2For read judge lend tool → AnswersTheCost judge → ⊥
+  answers-cost demand fake =
+      let second = rw (must-answer demand) at (fake 1 two 1) in
+      let same : _≡_ {A = ℕ} 3 2 = second (omega arith) in
+      omega arith
+
+  answers-none : Demand2For read judge lend tool → AnswersNoBounds judge → ⊥
+  answers-none demand fake =
+      let is = ap (λ (j : Judged). j .bounds) (must-answer demand) in
+      let z : _≡_ {A = ℕ} 0 1 = cc (sym is ∙ fake 1 two) in
+      omega arith
+
+  -- where the lent list holds 0 twice, the bounds would be 0
+  writes-none : Demand2For read judge writesNoBounds tool → ⊥
+  writes-none demand =
+      let given : writesNoBounds 1 two (0 ∷ 0 ∷ []) (0 ∷ 0 ∷ []) _ = (refl, refl) in
+      let left = demand .lent-lists 1 two (0 ∷ 0 ∷ []) (0 ∷ 0 ∷ []) _ given two-in-range (omega arith) in
+      let right = judged-right 1 two two-in-range in
+      let same = one-judgement-by-rules 1 two _ (judged 1 two) (left .right) right ∙ two-judged in
+      let bounds : left .bounds ≡ 1 ∷ 3 ∷ [] = ap (λ (j : Judged). j .bounds) same in
+      let first = rw bounds at (left .first) in
+      let z : _≡_ {A = ℕ} 0 1 = ap (λ (xs : List ℕ). getD xs 0 0) first in
+      omega arith
+
+  keeps-order : Demand2For read judge lend tool → KeepsSheetOrder read → ⊥
+  keeps-order demand fake =
+      let read-in = demand .sheets falling 2 whole-falling .1 in
+      let rises = read-in .rising 0 1 (omega arith) (omega (arith, read-in .counted)) in
+      let first = fake falling 2 whole-falling 0 (omega arith) .priority in
+      let second = fake falling 2 whole-falling 1 (omega arith) .priority in
+      omega arith
+
+  -- the row of priority 2 has the bound 3
+  joins-wrongly : (order : List Row → List Row) → AsTheRecordsStand order
+      → Demand2For read judge lend (judgesInOrder order) → ⊥
+  joins-wrongly order stands demand =
+      let text = one-text-printed (judgesInOrder order) (demand .whole-way) of-document in
+      let same = sym (crossed order stands) ∙ text ∙ sheet-of-document in
+      let z : _≡_ {A = ℕ} 50 51 = ap (λ (xs : List ℕ). getD xs 40 0) same in
+      omega arith
+
+  pub fakes-caught : FakesCaught read judge lend tool
+  fakes-caught =
+      record {
+        turns-away = turns-away;
+        takes-none = takes-none;
+        answers-cost = answers-cost;
+        writes-none = writes-none;
+        answers-none = answers-none;
+        keeps-order = keeps-order;
+        joins-wrongly = joins-wrongly;
+      }

@@ -1,4 +1,24 @@
--- The proofs of the three demands, and of the starred numbers.
-pub mod Starred
+-- The proofs of the three demands, of the pages that they stand on, of the fakes, and of the starred numbers.
+pub mod Lists
+pub mod Tables
+pub mod SheetsChecks
+pub mod SheetsRows
+pub mod Sheets
+pub mod SheetRecords
+pub mod Windows
+pub mod Solution
+pub mod Patterns
+pub mod Lent
+pub mod Tool
+pub mod Broken
+pub mod Calls
+pub mod Openings
+pub mod CallBytes
+pub mod Moves
+pub mod Clock
+pub mod Waiting
+pub mod Polls
+pub mod LentPolls
 pub mod Promises
 pub mod Fakes
+pub mod Starred

@@ -1,131 +1,144 @@
 -- The three demands hold.
-use native.Mathlib.Omega.{arith}
-use mathlib.Core.Path.{_≡_, refl, _∙_}
-use mathlib.Core.Bool.{false}
-use mathlib.Core.List.{_++_}
-use lib.Dec.{eqb}
-use lib.ListN.{length, drop, length-drop, length-append}
-use lib.Seq.{take-append-seam, drop-append-seam}
-use borrow.Author.Tests.{ne-eqb}
-use Rattle.quantities.specs.Checks.{listChecks, roomChecks, lentFault, listFault}
-use Rattle.quantities.proofs.Sound.{sound-list-means, sound-passes}
-use Rattle.quantities.proofs.Paper.{turned-away, fault-first}
-use Rattle.windows.specs.Answer.{judged, judgedInto, written, paperOf}
-use Rattle.windows.proofs.Into.{into-refused, into-room, refused-fault}
-use Rattle.windows.proofs.Judgement.{judged-faulty, judged-means, one-judgement}
-use Rattle.sheet.proofs.Promises.{whole-exactly, faulty-sheet-turned-away, refused-by-first-fault, no-table-refused}
-use Rattle.sheet.proofs.Promises.{board-answered, each-row-once, priorities-rise, table-in-order}
-use Rattle.bench.specs.Record.{lastInstant}
-use Rattle.bench.specs.History.{ticks, after}
-use Rattle.bench.proofs.Record.{whole-unbroken}
-use Rattle.bench.proofs.Kept.{kept-opened, kept-after}
-use Rattle.bench.proofs.Rules.{release-checks, tick-checks, call-turned-away, call-taken, refused-call-has-fault, refused-unchanged, faulty-table-not-opened, sound-table-opened}
-use Rattle.bench.proofs.Rules.{releases-by-rule, ticks-by-rule, books-balance}
+use Rattle.sheet.proofs.Readings.{read-to-means}
+use Rattle.bench.proofs.Rules.{refused-unchanged, books-balance}
 use Rattle.running.proofs.Running.{bounds-hold}
 use Rattle.running.proofs.Below.{rows-below}
 use Rattle.running.proofs.Replayed.{replay-in-time}
-use Rattle.promises.specs.Promises.{
-  FaultyListTurnedAway,
-  RefusedListHasFault,
-  LentListLeftAlone,
-  RefusedLentHasFault,
-  RoomEnough,
-  BoundsWritten,
-  TicksTaken,
-  Demand1,
-  Demand2,
-  Demand3,
-}
-
-faulty-list-turned-away : FaultyListTurnedAway
-unfolding listFault paperOf
-faulty-list-turned-away cores rows one first =
-    let turned = turned-away (listChecks cores rows) one first in
-    let answer = judged-faulty cores rows (turned .fault) (turned .is-fault) in
-    (rw answer (turned .on-paper), rw answer refl)
-
-refused-list-has-fault : RefusedListHasFault
-unfolding judged listFault
-refused-list-has-fault cores rows = (
-  λ fault e. fault-first (listChecks cores rows) fault (refused-fault (listFault cores rows) cores rows fault e),
-  sound-passes cores rows,
-)
-
-refused-lent-has-fault : RefusedLentHasFault
-unfolding judgedInto lentFault
-refused-lent-has-fault cores entries rows fault e =
-    fault-first (listChecks cores rows ++ roomChecks entries rows) fault
-    (refused-fault (lentFault cores entries rows) cores rows fault e)
-
-lent-list-left-alone : LentListLeftAlone
-unfolding lentFault written paperOf
-lent-list-left-alone cores rows entries one first =
-    let turned = turned-away (listChecks cores rows ++ roomChecks (length entries) rows) one first in
-    let answer = into-refused cores (length entries) rows (turned .fault) (turned .is-fault) in
-    (rw answer (turned .on-paper), rw answer refl)
-
-room-enough : RoomEnough
-room-enough cores entries rows sound enough =
-    into-room cores entries rows (sound-list-means cores rows .1 sound) enough
-
-bounds-written : BoundsWritten
-unfolding written
-bounds-written j entries =
-    let n = length (j .bounds) in (
-      take-append-seam (j .bounds) (drop n entries),
-      drop-append-seam (j .bounds) (drop n entries),
-      λ enough. length-append (j .bounds) (drop n entries) ∙ omega (arith, length-drop n entries),
-    )
-
-ticks-taken : TicksTaken
-ticks-taken cores table start o calls early =
-    let b = after start calls in
-    let kept = kept-after calls start (kept-opened cores table start o) in
-    let on : eqb (b .now .0) lastInstant ≡ false = ne-eqb (b .now .0) lastInstant (λ e. omega arith) in
-    call-taken b ticks (rw (tick-checks b) (whole-unbroken b (kept .whole), (on, tt)))
+use Rattle.promises.specs.Promises.{Demand1, Demand2, Demand3}
+use Rattle.promises.proofs.Sheets.{sheet-either, sheet-taken, taken-sheet-is-whole, sheet-turned-away}
+use Rattle.promises.proofs.Sheets.{refused-sheet-has-fault, no-byte-at-the-end, whole-length, sheets-read, one-reading}
+use Rattle.promises.proofs.SheetRecords.{records-come-back, priorities-to-999, row-records-to-32, thirty-two-taken}
+use Rattle.promises.proofs.Lists.{faulty-list-turned-away, refused-list-has-fault, taken-exactly}
+use Rattle.promises.proofs.Lists.{cores-to-16, rows-to-32, gaps-to-1000000}
+use Rattle.promises.proofs.Tables.{named-limits, table-made, table-checked}
+use Rattle.promises.proofs.Lent.{lent-answered, lent-turned-away, refused-lent-has-fault, lent-judged}
+use Rattle.promises.proofs.Lent.{of-lengths, by-value, triple-is-row, callers-in-c}
+use Rattle.promises.proofs.Broken.{broken-exactly}
+use Rattle.promises.proofs.Calls.{gives-29, call-turned-away, call-taken, refused-call-has-fault}
+use Rattle.promises.proofs.Calls.{gap-permitted, first-release-permitted}
+use Rattle.promises.proofs.Openings.{opening-refused, opening-taken, opened-holds, refusal-numbers}
+use Rattle.promises.proofs.Openings.{clock-to-1000000000, ended-listed, calls-answered}
+use Rattle.promises.proofs.CallBytes.{requests-read, requests-done, poll-comes-back, polls-fit-bytes, answer-comes-back}
+use Rattle.promises.proofs.CallBytes.{replay-answered, replay-no-room, replay-not-opened}
+use Rattle.promises.proofs.Moves.{release-starts, tick-serves}
+use Rattle.promises.proofs.Windows.{judged-right, one-judgement-by-rules, largest-total, floor-form}
+use Rattle.promises.proofs.Solution.{bounds-solve}
+use Rattle.promises.proofs.Patterns.{plain-is-largest, carry-is-largest, no-more-than-carry}
+use Rattle.promises.proofs.Tool.{goes-the-whole-way, one-text-printed, in-decimal, text-at-the-front, first-1024}
+use Rattle.promises.proofs.Clock.{clock-counts}
+use Rattle.promises.proofs.Polls.{polls-end, polls-end-in-ticks, polls-end-or-wait}
+use Rattle.promises.proofs.LentPolls.{lent-runs-on, lent-runs-history, lent-bounds-hold, lent-polls-end}
 
 pub demand-1 : Demand1
 demand-1 =
     record {
-      sheets = whole-exactly;
-      faulty-sheets = faulty-sheet-turned-away;
-      refused-sheets = refused-by-first-fault;
-      no-table = no-table-refused;
-      lists = faulty-list-turned-away;
-      refused-lists = refused-list-has-fault;
-      lent-lists = lent-list-left-alone;
-      refused-lent = refused-lent-has-fault;
-      room = room-enough;
-      entries = bounds-written;
-      faulty-openings = faulty-table-not-opened;
-      openings = sound-table-opened;
-      release-checks = release-checks;
-      tick-checks = tick-checks;
-      faulty-calls = call-turned-away;
-      calls = call-taken;
-      refused-by = refused-call-has-fault;
-      refused-calls = refused-unchanged;
-      releases = releases-by-rule;
-      ticks = ticks-by-rule;
+      sheets =
+          record {
+            either = sheet-either;
+            taken = sheet-taken;
+            taken-is-whole = taken-sheet-is-whole;
+            turned-away = sheet-turned-away;
+            refused = refused-sheet-has-fault;
+            no-byte = no-byte-at-the-end;
+            lengths = whole-length;
+            readings = read-to-means;
+            records = records-come-back;
+            priorities = priorities-to-999;
+            thirty-third-row = row-records-to-32;
+            thirty-two-rows = thirty-two-taken;
+          };
+      lists =
+          record {
+            turned-away = faulty-list-turned-away;
+            refused = refused-list-has-fault;
+            taken = taken-exactly;
+            cores = cores-to-16;
+            rows = rows-to-32;
+            gaps = gaps-to-1000000;
+            limits = named-limits;
+            tables = table-made;
+            checked = table-checked;
+          };
+      lent-lists =
+          record {
+            of-lengths = of-lengths;
+            answered = lent-answered;
+            turned-away = lent-turned-away;
+            refused = refused-lent-has-fault;
+            by-value = by-value;
+            triples = triple-is-row;
+            in-c = callers-in-c;
+          };
+      benches =
+          record {
+            openings-refused = opening-refused;
+            openings = opening-taken;
+            opened = opened-holds;
+            broken = broken-exactly;
+            gives-29 = gives-29;
+            turned-away = call-turned-away;
+            taken = call-taken;
+            refused = refused-call-has-fault;
+            unchanged = refused-unchanged;
+            numbers = refusal-numbers;
+            gap = gap-permitted;
+            first-release = first-release-permitted;
+            clock = clock-to-1000000000;
+            releases = release-starts;
+            ticks = tick-serves;
+            listed = ended-listed;
+            functions = calls-answered;
+          };
+      replays =
+          record {
+            requests = requests-read;
+            done = requests-done;
+            polls = poll-comes-back;
+            polls-fit = polls-fit-bytes;
+            answers = answer-comes-back;
+            answered = replay-answered;
+            no-room = replay-no-room;
+            not-opened = replay-not-opened;
+          };
     }
 
 pub demand-2 : Demand2
 demand-2 =
     record {
-      taken = λ sheet made. whole-exactly sheet .1 made;
-      rising = priorities-rise;
-      in-order = table-in-order;
-      each-once = each-row-once;
-      board = board-answered;
-      least = judged-means;
-      only = one-judgement;
+      ours =
+          record {
+            sheets = sheets-read;
+            lists = judged-right;
+            lent-answered = lent-answered;
+            lent-lists = lent-judged;
+            whole-way = goes-the-whole-way;
+          };
+      one-reading = one-reading;
+      one-judgement = one-judgement-by-rules;
+      one-text = one-text-printed;
+      largest-total = largest-total;
+      floor-form = floor-form;
+      least-solution = bounds-solve;
+      largest-plain = plain-is-largest;
+      largest-carry = carry-is-largest;
+      carry-in-short-windows = no-more-than-carry;
+      digits = in-decimal;
+      printed = text-at-the-front;
+      first-bytes = first-1024;
     }
 
 pub demand-3 : Demand3
 demand-3 =
     record {
       holds = bounds-hold;
-      runs = ticks-taken;
+      polls-end = polls-end;
+      in-ticks = polls-end-in-ticks;
+      or-wait = polls-end-or-wait;
+      clock = clock-counts;
+      lent-runs = lent-runs-on;
+      lent-histories = lent-runs-history;
+      lent-holds = lent-bounds-hold;
+      lent-polls-end = lent-polls-end;
       books = books-balance;
       below = rows-below;
       in-code = replay-in-time;

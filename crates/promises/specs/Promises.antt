@@ -1,131 +1,173 @@
--- The three demands. Each type is proved under its name in proofs/Promises.antt, of the definitions that the contracts cite.
-use Prim.Native.Nat.{ℕ, _≤_, _<_}
-use mathlib.Core.Path.{_≡_}
-use mathlib.Core.Logic.{_↔_}
-use mathlib.Core.Bool.{false}
-use mathlib.Core.List.{List, [], _++_}
-use mathlib.Core.Option.{some}
-use lib.ListN.{length, take, drop}
-use Rattle.laws.specs.Each.{Each}
+-- The three demands. Each is proved in proofs/Promises.antt, of the definitions that the contracts cite.
+-- The sentences stand on the pages beside this one, each with its numbers; the records below say which belong
+-- to which demand.
+use Prim.Native.Nat.{ℕ}
+use mathlib.Core.List.{List}
 use Rattle.quantities.specs.declared.Row.{Row}
-use Rattle.quantities.specs.declared.Table.{Table}
-use Rattle.quantities.specs.declared.Fault.{Fault}
-use Rattle.quantities.specs.Paper.{paper, faultPaper, FirstOf}
-use Rattle.quantities.specs.Checks.{Check, listChecks, roomChecks, FirstFailing, SoundList}
-use Rattle.windows.specs.declared.Answer.the-variants.{Refused}
-use Rattle.windows.specs.Answer.{Judged, judged, judgedInto, written, paperOf}
-use Rattle.windows.specs.Judgement.{Judgement}
-use Rattle.sheet.specs.Promises.{WholeExactly, FaultySheetTurnedAway, RefusedByFirstFault, NoTableRefused}
-use Rattle.sheet.specs.Promises.{BoardAnswered, EachRowOnce, PrioritiesRise, TableInOrder}
+use Rattle.windows.specs.Answer.{Judged, judged}
+use Rattle.sheet.specs.Faults.{ReadToMeans}
 use Rattle.sheet.specs.Reader.{readOf}
-use Rattle.sheet.specs.Whole.{MadeOf}
-use Rattle.sheet.specs.declared.Verdict.the-variants.{Sound}
 use Rattle.sheet.specs.declared.Outcome.{Outcome}
-use Rattle.bench.specs.declared.Bench.{Bench}
-use Rattle.bench.specs.declared.Outcome.the-variants.{Taken}
-use Rattle.bench.specs.Record.{lastInstant}
-use Rattle.bench.specs.Step.{opened, tick}
-use Rattle.bench.specs.History.{Call, after}
-use Rattle.bench.specs.Rules.{FaultyTableNotOpened, SoundTableOpened, ReleaseChecks, TickChecks, CallTurnedAway, CallTaken}
-use Rattle.bench.specs.Rules.{RefusedCallHasFault, RefusedUnchanged, ReleasesByRule, TicksByRule, BooksBalance}
+use Rattle.text.specs.Text.{textOf}
+use Rattle.bench.specs.Rules.{RefusedUnchanged, BooksBalance}
 use Rattle.running.specs.Running.{BoundsHold}
 use Rattle.running.specs.Below.{RowsBelow}
 use Rattle.running.specs.Replayed.{ReplayInTime}
+use Rattle.promises.specs.Sheets.{SheetEither, SheetTaken, TakenSheetIsWhole, SheetTurnedAway}
+use Rattle.promises.specs.Sheets.{RefusedSheetHasFault}
+use Rattle.promises.specs.Sheets.{WholeLength, NoByteAtTheEnd, SheetsRead, OneReading}
+use Rattle.promises.specs.SheetRecords.{RecordsComeBack, PrioritiesTo999, RowRecordsTo32, ThirtyTwoTaken}
+use Rattle.promises.specs.Lists.{FaultyListTurnedAway, RefusedListHasFault, TakenExactly}
+use Rattle.promises.specs.Lists.{CoresTo16, RowsTo32, GapsTo1000000}
+use Rattle.promises.specs.Tables.{NamedLimits, TableMade, TableChecked}
+use Rattle.promises.specs.Lent.{Lending, lent, LentAnswered, LentTurnedAway, RefusedLentHasFault}
+use Rattle.promises.specs.Lent.{OfLengths, LentJudged, ByValue, TripleIsRow, CallersInC}
+use Rattle.promises.specs.Calls.{BrokenExactly, Gives29, CallTurnedAway, CallTaken, RefusedCallHasFault}
+use Rattle.promises.specs.Calls.{GapPermitted, FirstReleasePermitted, OpeningRefused, OpeningTaken}
+use Rattle.promises.specs.Calls.{OpenedHolds, RefusalNumbers, ClockTo1000000000, EndedListed, CallsAnswered}
+use Rattle.promises.specs.CallBytes.{RequestsRead, RequestsDone, PollComesBack, PollsFit, AnswerComesBack}
+use Rattle.promises.specs.CallBytes.{ReplayAnswered, ReplayNoRoom, ReplayNotOpened}
+use Rattle.promises.specs.Moves.{ReleaseStarts, TickServes}
+use Rattle.promises.specs.Windows.{JudgedRight, OneJudgement, LargestTotal, FloorForm, BoundsSolve}
+use Rattle.promises.specs.Patterns.{PlainIsLargest, CarryIsLargest, NoMoreThanCarry}
+use Rattle.promises.specs.Tool.{GoesTheWholeWay, OneText, InDecimal, TextInFront, First1024}
+use Rattle.promises.specs.Polls.{ClockCounts, PollsEnd, PollsEndInTicks, PollsEndOrWait}
+use Rattle.promises.specs.LentPolls.{LentRunsOn, LentRunsHistory, LentBoundsHold, LentPollsEnd}
 
--- A row list with a fault is answered by the first check that fails, in the order 1, 2, then 3 to 6 row by row, with that
--- check's number and place, and no bounds.
-abbrev pub FaultyListTurnedAway : Type 0
-FaultyListTurnedAway =
-    (cores : ℕ) (rows : List Row) (one : Check) → FirstFailing (listChecks cores rows) one
-    → (paperOf (judged cores rows .answer) ≡ paper (one .number) (one .place))
-    × (judged cores rows .bounds ≡ [])
+-- Every sheet is answered: taken where it is whole, else turned away by its first fault (page Sheets), and
+-- the bytes of a record are its numbers (page SheetRecords).
+pub record SheetsAnswered : Type 0 where
+  pub either : SheetEither
+  pub taken : SheetTaken
+  pub taken-is-whole : TakenSheetIsWhole
+  pub turned-away : SheetTurnedAway
+  pub refused : RefusedSheetHasFault
+  pub no-byte : NoByteAtTheEnd
+  pub lengths : WholeLength
+  pub readings : ReadToMeans
+  pub records : RecordsComeBack
+  pub priorities : PrioritiesTo999
+  pub thirty-third-row : RowRecordsTo32
+  pub thirty-two-rows : ThirtyTwoTaken
 
--- And a row list that is refused has that fault: a list is sound exactly where each check passes.
-abbrev pub RefusedListHasFault : Type 0
-RefusedListHasFault =
-    (cores : ℕ) (rows : List Row)
-    → ((fault : Fault) → judged cores rows .answer ≡ Refused fault → FirstOf (listChecks cores rows) (faultPaper fault))
-    × (SoundList cores rows ↔ Each (λ one. one .fails ≡ false) (listChecks cores rows))
+-- Every row list is answered (page Lists), and every table (page Tables).
+pub record ListsAnswered : Type 0 where
+  pub turned-away : FaultyListTurnedAway
+  pub refused : RefusedListHasFault
+  pub taken : TakenExactly
+  pub cores : CoresTo16
+  pub rows : RowsTo32
+  pub gaps : GapsTo1000000
+  pub limits : NamedLimits
+  pub tables : TableMade
+  pub checked : TableChecked
 
--- The same where the bounds go into a list, with 7 after the rows' checks; and that list stays as it was.
-abbrev pub LentListLeftAlone : Type 0
-LentListLeftAlone =
-    (cores : ℕ) (rows : List Row) (entries : List ℕ) (one : Check)
-    → FirstFailing (listChecks cores rows ++ roomChecks (length entries) rows) one
-    → (paperOf (judgedInto cores (length entries) rows .answer) ≡ paper (one .number) (one .place))
-    × (written (judgedInto cores (length entries) rows) entries ≡ entries)
+-- The same on the caller's own list with a list that is lent, by value, and for a caller in C (page Lent).
+pub record LentListsAnswered : Type 0 where
+  pub of-lengths : OfLengths
+  pub answered : LentAnswered lent
+  pub turned-away : LentTurnedAway lent
+  pub refused : RefusedLentHasFault lent
+  pub by-value : ByValue
+  pub triples : TripleIsRow
+  pub in-c : CallersInC
 
--- And a list that is refused there has that fault.
-abbrev pub RefusedLentHasFault : Type 0
-RefusedLentHasFault =
-    (cores entries : ℕ) (rows : List Row) (fault : Fault) → judgedInto cores entries rows .answer ≡ Refused fault
-    → FirstOf (listChecks cores rows ++ roomChecks entries rows) (faultPaper fault)
+-- Every opening and every call on a bench is answered (page Calls), and one that is taken does what the rules
+-- say (page Moves).
+pub record BenchesAnswered : Type 0 where
+  pub openings-refused : OpeningRefused
+  pub openings : OpeningTaken
+  pub opened : OpenedHolds
+  pub broken : BrokenExactly
+  pub gives-29 : Gives29
+  pub turned-away : CallTurnedAway
+  pub taken : CallTaken
+  pub refused : RefusedCallHasFault
+  pub unchanged : RefusedUnchanged
+  pub numbers : RefusalNumbers
+  pub gap : GapPermitted
+  pub first-release : FirstReleasePermitted
+  pub clock : ClockTo1000000000
+  pub releases : ReleaseStarts
+  pub ticks : TickServes
+  pub listed : EndedListed
+  pub functions : CallsAnswered
 
--- A sound list with an entry for each row is answered as it is without such a list: 7 is not given to it.
-abbrev pub RoomEnough : Type 0
-RoomEnough =
-    (cores entries : ℕ) (rows : List Row) → SoundList cores rows → length rows ≤ entries
-    → judgedInto cores entries rows ≡ judged cores rows
+-- Calls and answers that go through bytes come back, and so does a whole replay (page CallBytes).
+pub record ReplaysAnswered : Type 0 where
+  pub requests : RequestsRead
+  pub done : RequestsDone
+  pub polls : PollComesBack
+  pub polls-fit : PollsFit
+  pub answers : AnswerComesBack
+  pub answered : ReplayAnswered
+  pub no-room : ReplayNoRoom
+  pub not-opened : ReplayNotOpened
 
--- Then the first entries hold the bounds, every later entry is as it was, and none is lost.
-abbrev pub BoundsWritten : Type 0
-BoundsWritten =
-    (j : Judged) (entries : List ℕ)
-    → (take (length (j .bounds)) (written j entries) ≡ j .bounds)
-    × (drop (length (j .bounds)) (written j entries) ≡ drop (length (j .bounds)) entries)
-    × (length (j .bounds) ≤ length entries → length (written j entries) ≡ length entries)
-
--- Demand 1. Every sheet, row list and bench call is answered; a faulty one is turned away by number and place, in the fixed
--- order of checks, and every list or bench then holds exactly what the rules say.
+-- Demand 1. Every sheet, row list and bench call is answered; a faulty one is turned away by number and
+-- place, in the fixed order of checks, and every list or bench then holds exactly what the rules say.
 pub record Demand1 : Type 0 where
-  pub sheets : WholeExactly
-  pub faulty-sheets : FaultySheetTurnedAway
-  pub refused-sheets : RefusedByFirstFault
-  pub no-table : NoTableRefused
-  pub lists : FaultyListTurnedAway
-  pub refused-lists : RefusedListHasFault
-  pub lent-lists : LentListLeftAlone
-  pub refused-lent : RefusedLentHasFault
-  pub room : RoomEnough
-  pub entries : BoundsWritten
-  pub faulty-openings : FaultyTableNotOpened
-  pub openings : SoundTableOpened
-  pub release-checks : ReleaseChecks
-  pub tick-checks : TickChecks
-  pub faulty-calls : CallTurnedAway
-  pub calls : CallTaken
-  pub refused-by : RefusedCallHasFault
-  pub refused-calls : RefusedUnchanged
-  pub releases : ReleasesByRule
-  pub ticks : TicksByRule tick
+  pub sheets : SheetsAnswered
+  pub lists : ListsAnswered
+  pub lent-lists : LentListsAnswered
+  pub benches : BenchesAnswered
+  pub replays : ReplaysAnswered
 
--- Demand 2, of a reader of sheets and a judge of row lists. A sheet without fault is taken; its rows stand in rising priority
--- number, each once. The bound of a row is the least window from C to D that passes for every permitted choice of carry-in
--- rows; the first row with none is named, it and those below get no bound. No other judgement of a list reads so.
-pub record Demand2For (read : List ℕ → Outcome) (judge : (cores : ℕ) → List Row → Judged) : Type 0 where
-  pub taken : (sheet : List ℕ) → MadeOf sheet → read sheet .verdict ≡ Sound
-  pub rising : PrioritiesRise read
-  pub in-order : TableInOrder read
-  pub each-once : EachRowOnce read
-  pub board : BoardAnswered read
-  pub least : (cores : ℕ) (rows : List Row) → SoundList cores rows → Judgement cores rows (judge cores rows)
-  pub only : (cores : ℕ) (rows : List Row) (j k : Judged) → Judgement cores rows j → Judgement cores rows k → j ≡ k
+-- A reader of sheets, a judge of row lists, and a tool that prints a text for a sheet. (`Lending`, page Lent,
+-- is an analysis that is lent a list.)
+abbrev pub Reader : Type 0
+Reader = List ℕ → Outcome
 
--- It holds of ours; specs/Fakes.antt has some that it does not hold of.
-abbrev pub Demand2 : Type 0
-Demand2 = Demand2For readOf judged
+abbrev pub Judge : Type 0
+Judge = (cores : ℕ) → List Row → Judged
 
--- A board that was opened runs on: until its clock ends, every tick is taken.
-abbrev pub TicksTaken : Type 0
-TicksTaken =
-    (cores : ℕ) (table : Table) (start : Bench) → opened cores table ≡ some start → (calls : List Call)
-    → after start calls .now .0 < lastInstant → tick (after start calls) .outcome ≡ Taken
+abbrev pub Tool : Type 0
+Tool = List ℕ → List ℕ
 
--- Demand 3. The bound holds on a running board: from an empty bench, over any sequence of calls, refused ones included.
--- Rows below make no difference. And no answer that the replay writes, for any bytes as calls, breaks a bound.
+-- Demand 2, of any of these. A sheet without fault is taken, and its rows stand in rising priority number,
+-- each once, with their times in ticks (page Sheets). The bound of a row is the least window from C to D that
+-- passes for every permitted choice of carry-in rows; the first row with none is named, it and those below
+-- get no bound (page Windows); so too on lent lists (page Lent). And the whole way: the text for a sheet is
+-- that of the judgement of the rows as they were read (page Tool).
+pub record Demand2For (read : Reader) (judge : Judge) (lend : Lending) (tool : Tool) : Type 0 where
+  pub sheets : SheetsRead read
+  pub lists : JudgedRight judge
+  pub lent-answered : LentAnswered lend
+  pub lent-lists : LentJudged lend
+  pub whole-way : GoesTheWholeWay tool
+
+-- It holds of ours; specs/Fakes.antt has some that it does not hold of. It leaves one reading, one judgement
+-- and one text. The window formulas are no larger than they have to be: each is the largest work of a row,
+-- over all patterns of releases.
+pub record Demand2 : Type 0 where
+  pub ours : Demand2For readOf judged lent textOf
+  pub one-reading : OneReading
+  pub one-judgement : OneJudgement
+  pub one-text : OneText
+  pub largest-total : LargestTotal
+  pub floor-form : FloorForm
+  pub least-solution : BoundsSolve
+  pub largest-plain : PlainIsLargest
+  pub largest-carry : CarryIsLargest
+  pub carry-in-short-windows : NoMoreThanCarry
+  pub digits : InDecimal
+  pub printed : TextInFront
+  pub first-bytes : First1024
+
+-- Demand 3. The bound holds on a running board: from an empty bench, over any sequence of calls, refused ones
+-- included. Each poll ends within it (page Polls), also where the caller lends the bench (page LentPolls).
+-- Rows below make no difference. And no answer that the replay writes, for any bytes as calls, breaks a
+-- bound.
 pub record Demand3 : Type 0 where
   pub holds : BoundsHold
-  pub runs : TicksTaken
+  pub polls-end : PollsEnd
+  pub in-ticks : PollsEndInTicks
+  pub or-wait : PollsEndOrWait
+  pub clock : ClockCounts
+  pub lent-runs : LentRunsOn
+  pub lent-histories : LentRunsHistory
+  pub lent-holds : LentBoundsHold
+  pub lent-polls-end : LentPollsEnd
   pub books : BooksBalance
   pub below : RowsBelow
   pub in-code : ReplayInTime

@@ -1,4 +1,4 @@
--- The starred numbers of document 01, "Numbers to check by hand", in one list; proofs/Starred.antt shows that every claim holds.
+-- The starred numbers of document 01 in one list; proofs/Starred.antt shows that every claim holds.
 use mathlib.Core.List.{List, _++_}
 use Rattle.windows.specs.Starred.{claims as list-claims}
 use Rattle.bench.specs.Starred.{claims as bench-claims}

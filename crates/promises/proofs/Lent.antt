@@ -1,0 +1,116 @@
+-- The lent analysis answers, and leaves the lent list, as specs/Lent.antt says.
+use Prim.Native.Nat.{ℕ, zero, suc, _-_}
+use native.Mathlib.Omega.{arith}
+use mathlib.Core.Path.{_≡_, refl, sym, ap, _∙_}
+use mathlib.Core.List.{List, _++_}
+use lib.ListN.{length, drop, replicate, length-map, length-append, length-drop, length-replicate}
+use lib.Seq.{take-append-seam, drop-append-seam}
+use Rattle.laws.specs.Each.{Each}
+use Rattle.quantities.specs.declared.Ticks.{Ticks}
+use Rattle.quantities.specs.Limits.{rowCapacity}
+use Rattle.quantities.specs.Checks.{listChecks, roomChecks, lentFault}
+use Rattle.quantities.proofs.Paper.{fault-first}
+use Rattle.quantities.proofs.Sound.{sound-list-means}
+use Rattle.windows.specs.Answer.{Judged, judged, judgedInto, written, paperOf}
+use Rattle.windows.proofs.Into.{into-refused, into-room, refused-fault, few-bounds}
+use Rattle.analysis.specs.Analysis.{analysisOf}
+use Rattle.lines.proofs.Lines.{numbers-in-array}
+use Rattle.promises.specs.Lists.{faultAt}
+use Rattle.promises.specs.Lent.{
+  lent,
+  OfLengths,
+  LentAnswered,
+  LentTurnedAway,
+  RefusedLentHasFault,
+  LentJudged,
+  ByValue,
+  TripleIsRow,
+  CallersInC,
+}
+use Rattle.promises.proofs.Lists.{lent-order, fault-of-first, turned-by, sound-in-range}
+use Rattle.promises.proofs.Windows.{judged-right}
+
+pub lent-answered : LentAnswered lent
+lent-answered cores rows before =
+    let j = judgedInto cores (length before) rows in
+    record { after = written j before; answer = j .answer; given = record { answers = refl; leaves = refl } }
+
+pub of-lengths : OfLengths
+of-lengths =
+    record {
+      none = refl;
+      one = λ length-of rest. refl;
+      analyse-list = λ cores rows before after answer given.
+          rw (length-map before (λ (one : Ticks). one .0)) given;
+    }
+
+pub lent-turned-away : LentTurnedAway lent
+unfolding lentFault written
+lent-turned-away cores rows before after answer one given first =
+    let first′ = rw (lent-order cores (length before) rows) at first in
+    let fault = faultAt (one .number) (one .place) in
+    let found = fault-of-first (listChecks cores rows ++ roomChecks (length before) rows) one first′ in
+    let is = into-refused cores (length before) rows fault found in
+    let turned = turned-by one (judgedInto cores (length before) rows) is in
+    record {
+      answers = given .answers ∙ turned .answers;
+      on-paper = ap paperOf (given .answers) ∙ turned .on-paper;
+      same-list = given .leaves ∙ ap (λ (j : Judged). written j before) is;
+    }
+
+pub refused-lent-has-fault : RefusedLentHasFault lent
+unfolding judgedInto lentFault
+refused-lent-has-fault cores rows before after fault given =
+    rw (lent-order cores (length before) rows)
+    (fault-first (listChecks cores rows ++ roomChecks (length before) rows) fault
+    (refused-fault (lentFault cores (length before) rows) cores rows fault (sym (given .answers))))
+
+pub lent-judged : LentJudged lent
+unfolding written
+lent-judged cores rows before after answer given range room =
+    let sound = sound-in-range cores rows range in
+    let is = into-room cores (length before) rows (sound-list-means cores rows .1 sound) room in
+    let j = judged cores rows in
+    let n = length (j .bounds) in
+    let same : answer ≡ j .answer = given .answers ∙ ap (λ (k : Judged). k .answer) is in
+    let leaves : after ≡ written j before = given .leaves ∙ ap (λ (k : Judged). written k before) is in
+    record {
+      bounds = j .bounds;
+      right = rw same (judged-right cores rows range);
+      first = rw leaves (take-append-seam (j .bounds) (drop n before));
+      later = rw leaves (drop-append-seam (j .bounds) (drop n before));
+      as-long =
+          rw leaves
+          (length-append (j .bounds) (drop n before) ∙ omega (arith, length-drop n before, few-bounds cores rows sound));
+    }
+
+-- repeated entries are each the one repeated
+each-blank : (n : ℕ) → Each (λ (entry : ℕ). entry ≡ 0) (replicate n 0)
+each-blank zero = tt
+each-blank (suc n) = (refl, each-blank n)
+
+pub by-value : ByValue
+unfolding analysisOf
+by-value j few =
+    let blank : List ℕ = replicate (rowCapacity - length (j .bounds)) 0 in (
+      refl,
+      rw (numbers-in-array (j .bounds))
+          (record {
+            first = take-append-seam (j .bounds) blank;
+            blank = rw (drop-append-seam (j .bounds) blank) (each-blank (rowCapacity - length (j .bounds)));
+            many =
+                length-append (j .bounds) blank
+                ∙ omega (arith, length-replicate {A = ℕ} (rowCapacity - length (j .bounds)) 0);
+          }),
+    )
+
+pub triple-is-row : TripleIsRow
+triple-is-row c d t = (refl, refl, refl)
+
+pub callers-in-c : CallersInC
+callers-in-c cores triples before after code exported =
+    record {
+      answer = judgedInto cores (length before) _ .answer;
+      given = record { answers = refl; leaves = exported .leaves };
+      coded = exported .answers;
+    }

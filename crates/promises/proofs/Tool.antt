@@ -1,0 +1,265 @@
+-- The program's text goes the whole way from a sheet's bytes, and no tool that does prints another.
+use Prim.Native.Nat.{ℕ, zero, suc, _+_, _-_, _/_, _%_, _≤_, _<_}
+use native.Mathlib.Decide.{decLt}
+use native.Mathlib.Nat.{div-add-mod'}
+use native.Mathlib.Omega.{arith}
+use mathlib.Core.Path.{_≡_, refl, sym, ap, subst, _∙_}
+use mathlib.Core.Logic.{⊎-elim}
+use mathlib.Core.List.{List, _++_, append-assoc}
+use mathlib.Core.Option.{Option, none, some}
+use lib.ListN.{length, getD, length-map, length-take}
+use lib.Seq.{getD-take}
+use Rattle.quantities.specs.declared.Row.{Row}
+use Rattle.quantities.specs.declared.Fault.{Fault}
+use Rattle.quantities.specs.Checks.{Check, FirstFailing, listFault, listChecks}
+use Rattle.quantities.specs.Table.{rowsOf}
+use Rattle.quantities.proofs.Sound.{first-found, sound-list-means}
+use Rattle.quantities.proofs.Paper.{fault-first}
+use Rattle.windows.specs.declared.Answer.{Answer}
+use Rattle.windows.specs.declared.Answer.the-variants.{Shown, NotShown}
+use Rattle.windows.specs.Answer.{Judged, judged}
+use Rattle.windows.proofs.Judgement.{judged-faulty}
+use Rattle.sheet.specs.declared.Entry.{Entry}
+use Rattle.sheet.specs.declared.Sheet.{Sheet}
+use Rattle.sheet.specs.Entries.{noEntry, entriesOf, tableOf}
+use Rattle.sheet.specs.Reader.{readOf}
+use Rattle.lines.specs.Words.{ascii}
+use Rattle.lines.specs.Decimal.{decimal}
+use Rattle.lines.specs.Lines.{firstLine, rowLine, rowLines, shownLine, notShownLine, refusedLine}
+use Rattle.lines.proofs.Decimal.{decimal-one, decimal-more}
+use Rattle.text.specs.Text.{boundLines, labelAt, judgedText, sheetText, textOf}
+use Rattle.text.proofs.Text.{text-unread, text-read, text-first-bytes}
+use Rattle.text.proofs.Printed.{text-in-front, nothing-written}
+use Rattle.promises.specs.Lists.{listOrder, ListInRange}
+use Rattle.promises.specs.Windows.{JudgedBy, EveryRowShown, FirstRowNotShown}
+use Rattle.promises.specs.Sheets.{coresOf, tickOf, WholeWith, FirstFault}
+use Rattle.promises.specs.Tool.{
+  Digits,
+  one,
+  more,
+  InDecimal,
+  firstText,
+  rowTexts,
+  notShownText,
+  refusedText,
+  rowsIn,
+  TextOf,
+  turned-away,
+  all-shown,
+  not-shown,
+  WholeWay,
+  GoesTheWholeWay,
+  OneText,
+  TextInFront,
+  First1024,
+}
+use Rattle.promises.proofs.Lists.{list-order, faulty-list-turned-away, in-range-sound, in-range-taken}
+use Rattle.promises.proofs.Sheets.{sheet-turned-away, sheet-either, sheets-read, one-reading}
+use Rattle.promises.proofs.Windows.{judged-right, one-judgement-by-rules}
+
+-- Digits.
+digits-below : (most n : ℕ) → n < most → Digits n (decimal n)
+digits-below zero n h = absurd (omega arith)
+digits-below (suc most) n h =
+    elim (decLt n 10) [
+      | yes small ↦ rw (decimal-one n small) (one n small)
+      | no large ↦
+          let tenth = digits-below most (n / 10) (omega arith) in
+          let whole = more (n / 10) (n % 10) (decimal (n / 10)) (omega arith) (omega arith) tenth in
+          rw (decimal-more n (omega arith)) (rw (div-add-mod' n 10) at whole)
+    ]
+
+pub in-decimal : InDecimal
+in-decimal n = digits-below (suc n) n (omega arith)
+
+-- The lines on the page are the definitions' own.
+three-numbers : (a b c d e f g : List ℕ) → (a ++ b) ++ (c ++ d) ++ (e ++ f) ++ g ≡ a ++ b ++ c ++ d ++ e ++ f ++ g
+three-numbers a b c d e f g = simp append-assoc
+
+first-text : (cores tick rows : ℕ) → firstLine cores tick rows ≡ firstText cores tick rows
+unfolding firstLine
+first-text cores tick rows =
+    three-numbers (ascii "cores ") (decimal cores) (ascii " tick ") (decimal tick) (ascii " rows ")
+    (decimal rows) (ascii "\n")
+
+row-texts : (entries : List Entry) (bounds : List ℕ) (k : ℕ) → rowLines entries bounds k ≡ rowTexts entries bounds k
+unfolding rowLines rowLine
+row-texts entries bounds zero = refl
+row-texts entries bounds (suc k) = rw (row-texts entries bounds k) (simp append-assoc)
+
+pub refused-text : (number place : ℕ) → refusedLine number place ≡ refusedText number place
+unfolding refusedLine
+refused-text number place = simp append-assoc
+
+not-shown-text : (place label : ℕ) → notShownLine place label ≡ notShownText place label
+unfolding notShownLine
+not-shown-text place label = simp append-assoc
+
+-- the lines of the rows that a sheet counts stand for its entries
+in-entries : (s : Sheet) (k : ℕ) → k < length (entriesOf s) → getD (s .entries) k noEntry ≡ getD (entriesOf s) k noEntry
+unfolding entriesOf
+in-entries s k h =
+    sym (getD-take (s .count) (s .entries) k noEntry (omega (arith, length-take (s .count) (s .entries))))
+
+texts-in-entries : (s : Sheet) (bounds : List ℕ) (k : ℕ) → k ≤ length (entriesOf s)
+    → rowTexts (s .entries) bounds k ≡ rowTexts (entriesOf s) bounds k
+texts-in-entries s bounds zero h = refl
+texts-in-entries s bounds (suc k) h =
+    rw (texts-in-entries s bounds k (omega arith), in-entries s k (omega arith)) refl
+
+bound-texts : (s : Sheet) (rows : List Row) (bounds : List ℕ) → length bounds ≤ length (entriesOf s)
+    → boundLines s rows bounds
+    ≡ firstText (s .cores) (s .tick .0) (length rows) ++ rowTexts (entriesOf s) bounds (length bounds)
+unfolding boundLines
+bound-texts s rows bounds h =
+    let n = length bounds in
+    let first = first-text (s .cores) (s .tick .0) (length rows) in
+    rw (first, row-texts (s .entries) bounds n, texts-in-entries s bounds n h) refl
+
+-- The text of a sheet that was read, where its table has the rows of its entries.
+module _ (s : Sheet) (table : rowsOf (tableOf s) ≡ rowsIn (entriesOf s)) where
+  abbrev rows : List Row
+  rows = rowsIn (entriesOf s)
+
+  abbrev j : Judged
+  j = judged (s .cores) rows
+
+  text-judged : sheetText s ≡ judgedText s rows j
+  unfolding sheetText
+  text-judged = rw table refl
+
+  as-many : length rows ≡ length (entriesOf s)
+  as-many = length-map (entriesOf s) (λ (entry : Entry). entry .row)
+
+  told : (answer : Answer) → j .answer ≡ answer → JudgedBy (s .cores) rows j
+      → JudgedBy (s .cores) rows (record { answer = answer; bounds = j .bounds })
+  told answer e right =
+      subst (λ (a : Answer). JudgedBy (s .cores) rows (record { answer = a; bounds = j .bounds })) e right
+
+  text-faulty : (fault : Fault) → listFault (s .cores) rows ≡ some fault
+      → TextOf (s .cores) (s .tick .0) (entriesOf s) (sheetText s)
+  unfolding listFault judgedText
+  text-faulty fault q =
+      let found = fault-first (listChecks (s .cores) rows) fault q in
+      turned-away (found .one) (rw (list-order (s .cores) rows) (found .first))
+      (text-judged
+      ∙ ap (judgedText s rows) (judged-faulty (s .cores) rows fault q)
+      ∙ rw (found .is) (refused-text (found .one .number) (found .one .place)))
+
+  text-shown : ListInRange (s .cores) rows → JudgedBy (s .cores) rows j → EveryRowShown rows j
+      → TextOf (s .cores) (s .tick .0) (entriesOf s) (sheetText s)
+  unfolding judgedText shownLine
+  text-shown range right every =
+      let many : length (j .bounds) ≡ length (entriesOf s) = every .each ∙ as-many in
+      all-shown (j .bounds) range (told Shown (every .says) right)
+      (text-judged
+      ∙ rw (every .says, judgedText, bound-texts s rows (j .bounds) (omega arith), many, as-many) refl)
+
+  text-not-shown : ListInRange (s .cores) rows → JudgedBy (s .cores) rows j → FirstRowNotShown (s .cores) rows j
+      → TextOf (s .cores) (s .tick .0) (entriesOf s) (sheetText s)
+  unfolding judgedText
+  text-not-shown range right first =
+      let n = length (j .bounds) in
+      let within : n < length (entriesOf s) = omega (arith, first .stands, as-many) in
+      let label : labelAt s (suc n - 1) ≡ getD (entriesOf s) n noEntry .label =
+      ap (labelAt s) {x = suc n - 1} {y = n} (omega arith) ∙ ap (λ (entry : Entry). entry .label) (in-entries s n within) in
+      not-shown n (j .bounds) range (told (NotShown (suc n)) (first .says) right)
+      (text-judged
+      ∙ rw (first .says, judgedText, bound-texts s rows (j .bounds) (omega arith), as-many, label, not-shown-text) refl)
+
+  text-of-sheet : TextOf (s .cores) (s .tick .0) (entriesOf s) (sheetText s)
+  text-of-sheet = by-fault (listFault (s .cores) rows) refl
+    where
+      by-fault : (found : Option Fault) → listFault (s .cores) rows ≡ found
+          → TextOf (s .cores) (s .tick .0) (entriesOf s) (sheetText s)
+      by-fault (some fault) q = text-faulty fault q
+      by-fault none q =
+          let range = in-range-sound (s .cores) rows (sound-list-means (s .cores) rows .0 q) in
+          let right = judged-right (s .cores) rows range in
+          ⊎-elim (text-shown range right) (text-not-shown range right) (right .ends)
+
+-- Ours goes the whole way.
+whole-way : (sheet : List ℕ) (n : ℕ) → WholeWith sheet n → WholeWay sheet n (textOf sheet)
+whole-way sheet n w =
+    let s = readOf sheet .sheet in
+    let reads = sheets-read sheet n w .1 in
+    let text = text-read sheet (readOf sheet) refl (sheets-read sheet n w .0) in
+    record {
+      found = s;
+      reads = reads;
+      prints = rw (← reads .cores, ← reads .tick, text) (text-of-sheet s (reads .table));
+    }
+
+pub goes-the-whole-way : GoesTheWholeWay textOf
+goes-the-whole-way =
+    record {
+      whole = whole-way;
+      faulty = λ sheet first fault.
+          text-unread sheet (readOf sheet) refl (first .number) (first .place) (sheet-turned-away sheet first fault .answers)
+          ∙ refused-text (first .number) (first .place);
+    }
+
+-- Another tool that does prints the same text: of the rows as they are read there is one, and of their
+-- judgement.
+module _ (cores tick : ℕ) (entries : List Entry) where
+  -- a list that is turned away is not in range
+  not-both : (first : Check) → FirstFailing (listOrder cores (rowsIn entries)) first → ListInRange cores (rowsIn entries) → ⊥
+  not-both first failing range =
+      in-range-taken cores (rowsIn entries) range _ (faulty-list-turned-away cores (rowsIn entries) first failing .answers)
+
+  same-first : (a b : Check) → FirstFailing (listOrder cores (rowsIn entries)) a
+      → FirstFailing (listOrder cores (rowsIn entries)) b → a ≡ b
+  same-first a b p q =
+      let found : some a ≡ some b =
+      sym (first-found (listOrder cores (rowsIn entries)) a p) ∙ first-found (listOrder cores (rowsIn entries)) b q in
+      cc
+
+  one-text : (a b : List ℕ) → TextOf cores tick entries a → TextOf cores tick entries b → a ≡ b
+  one-text a b (turned-away first p e) (turned-away other q f) =
+      e ∙ ap (λ (one : Check). refusedText (one .number) (one .place)) (same-first first other p q) ∙ sym f
+  one-text a b (turned-away first p e) (all-shown bounds range q f) = absurd (not-both first p range)
+  one-text a b (turned-away first p e) (not-shown before bounds range q f) = absurd (not-both first p range)
+  one-text a b (all-shown bounds range q f) (turned-away first p e) = absurd (not-both first p range)
+  one-text a b (not-shown before bounds range q f) (turned-away first p e) = absurd (not-both first p range)
+  one-text a b (all-shown xs range p e) (all-shown ys range′ q f) =
+      let same = one-judgement-by-rules cores (rowsIn entries) _ _ p q in
+      let bounds : xs ≡ ys = ap (λ (j : Judged). j .bounds) same in
+      e ∙ rw bounds (sym f)
+  one-text a b (all-shown xs range p e) (not-shown n ys range′ q f) =
+      let same = one-judgement-by-rules cores (rowsIn entries) _ _ p q in
+      let z : _≡_ {A = ℕ} 0 1 = cc (ap (λ (j : Judged). j .answer) same) in
+      absurd (omega arith)
+  one-text a b (not-shown n ys range′ q f) (all-shown xs range p e) =
+      let same = one-judgement-by-rules cores (rowsIn entries) _ _ p q in
+      let z : _≡_ {A = ℕ} 0 1 = cc (ap (λ (j : Judged). j .answer) same) in
+      absurd (omega arith)
+  one-text a b (not-shown m xs range p e) (not-shown n ys range′ q f) =
+      let same = one-judgement-by-rules cores (rowsIn entries) _ _ p q in
+      let bounds : xs ≡ ys = ap (λ (j : Judged). j .bounds) same in
+      let answers : NotShown (suc m) ≡ NotShown (suc n) = ap (λ (j : Judged). j .answer) same in
+      let places : suc m ≡ suc n = cc in
+      let place : m ≡ n = omega arith in
+      e ∙ rw (bounds, place) (sym f)
+
+pub one-text-printed : OneText
+one-text-printed tool goes sheet =
+    ⊎-elim
+    (λ (w : (n : ℕ) × WholeWith sheet n). same (w .0) (goes .whole sheet (w .0) (w .1)) (whole-way sheet (w .0) (w .1)))
+    (λ (f : (first : Check) × FirstFault sheet first).
+    goes .faulty sheet (f .0) (f .1) ∙ sym (goes-the-whole-way .faulty sheet (f .0) (f .1)))
+    (sheet-either sheet)
+  where
+    same : (n : ℕ) → WholeWay sheet n (tool sheet) → WholeWay sheet n (textOf sheet) → tool sheet ≡ textOf sheet
+    same n a b =
+        let entries = one-reading sheet n (a .found) (b .found) (a .reads) (b .reads) .0 in
+        one-text (coresOf sheet) (tickOf sheet) (entriesOf (b .found)) (tool sheet) (textOf sheet)
+        (rw entries at (a .prints)) (b .prints)
+
+pub text-at-the-front : TextInFront
+text-at-the-front sheet buffer after count printed = (
+  λ room. text-in-front sheet buffer after count room printed,
+  λ short. nothing-written sheet buffer after count short printed,
+)
+
+pub first-1024 : First1024
+first-1024 = text-first-bytes

@@ -1,0 +1,208 @@
+-- The order sheet in bytes: which sheets are taken, which number and place turn one away, and what is read.
+use Prim.Native.Nat.{ℕ, zero, suc, _+_, _*_, _≤_, _<_}
+use mathlib.Core.Path.{_≡_}
+use mathlib.Core.Logic.{_⊎_}
+use mathlib.Core.Bool.{Bool, false, not, cond, _||_}
+use mathlib.Core.List.{List, [], _∷_, _++_, map}
+use lib.Dec.{eqb, leb, ltb}
+use lib.ListN.{length, getD, take}
+use Rattle.laws.specs.Each.{Each}
+use Rattle.laws.specs.Permuted.{Permuted}
+use Rattle.quantities.specs.Checks.{Check, check, FirstFailing}
+use Rattle.quantities.specs.Paper.{paper}
+use Rattle.quantities.specs.Table.{rowsOf}
+use Rattle.sheet.specs.Entries.{noEntry, entriesOf, tableOf}
+use Rattle.sheet.specs.Reader.{readOf, paperOf}
+use Rattle.sheet.specs.declared.Entry.{Entry}
+use Rattle.sheet.specs.declared.Sheet.{Sheet}
+use Rattle.sheet.specs.declared.Verdict.the-variants.{Sound, Refused}
+use Rattle.sheet.specs.declared.Outcome.{Outcome}
+
+-- Byte places count from 0. Numbers are unsigned, most significant byte first.
+abbrev pub byte : List ℕ → (place : ℕ) → ℕ
+byte sheet place = getD sheet place 0
+
+abbrev pub twoBytes : List ℕ → (place : ℕ) → ℕ
+twoBytes sheet place = byte sheet place * 256 + byte sheet (place + 1)
+
+abbrev pub fourBytes : List ℕ → (place : ℕ) → ℕ
+fourBytes sheet place = twoBytes sheet place * 65536 + twoBytes sheet (place + 2)
+
+-- One byte of kind, then a body whose length the kind fixes: of a board (1) 3 bytes, of a row (2) 16, of an
+-- end (3) 1.
+abbrev pub bodyLength : (kind : ℕ) → ℕ
+bodyLength kind = cond (eqb kind 1) 3 (cond (eqb kind 2) 16 1)
+
+-- A board record takes 4 bytes and a row record 17: where the record after a board and so many rows begins.
+abbrev pub behind : (rows : ℕ) → ℕ
+behind rows = 4 + 17 * rows
+
+-- A board record: kind, cores (1), tick length in µs (2). The sheet begins with it.
+abbrev pub coresOf : List ℕ → ℕ
+coresOf sheet = byte sheet 1
+
+abbrev pub tickOf : List ℕ → ℕ
+tickOf sheet = twoBytes sheet 2
+
+-- A row record: kind, label (2), priority (2), C (4), D (4), T (4), times in µs. It begins at this place.
+abbrev pub labelAt : List ℕ → (place : ℕ) → ℕ
+labelAt sheet place = twoBytes sheet (place + 1)
+
+abbrev pub priorityAt : List ℕ → (place : ℕ) → ℕ
+priorityAt sheet place = twoBytes sheet (place + 3)
+
+-- whether one of the first rows of the sheet, so many, has this priority
+abbrev pub usedBefore : List ℕ → (rows : ℕ) → (priority : ℕ) → Bool
+usedBefore sheet zero priority = false
+usedBefore sheet (suc n) priority = eqb (priorityAt sheet (behind n)) priority || usedBefore sheet n priority
+
+-- Order, sheet: at each record 11 (no byte; the place is the sheet's length), 12, 13, 11 (cut short; the
+-- place is its kind byte). The record should start at this place; 13 fails where it is misplaced.
+abbrev pub commonOrder : List ℕ → (place : ℕ) → (misplaced : Bool) → List Check
+commonOrder sheet place misplaced =
+    check 11 (length sheet) (leb (length sheet) place)
+    ∷ check 12 place (not (eqb (byte sheet place) 1 || eqb (byte sheet place) 2 || eqb (byte sheet place) 3))
+    ∷ check 13 place misplaced
+    ∷ check 11 place (ltb (length sheet) (place + 1 + bodyLength (byte sheet place)))
+    ∷ []
+
+-- The first record: 13 where it is not a board; then board 19, tick length 0.
+abbrev pub boardOrder : List ℕ → List Check
+boardOrder sheet =
+    commonOrder sheet 0 (not (eqb (byte sheet 0) 1))
+    ++ (check 19 0 (eqb (tickOf sheet) 0) ∷ [])
+
+-- Row 14, 16, 15, of the record after so many rows: a 33rd row record; priority 0 or above 999; priority
+-- already used.
+abbrev pub rowOrder : List ℕ → (rows : ℕ) → List Check
+rowOrder sheet n =
+    check 14 (behind n) (leb 32 n)
+    ∷ check 16 (behind n) (eqb (priorityAt sheet (behind n)) 0 || ltb 999 (priorityAt sheet (behind n)))
+    ∷ check 15 (behind n) (usedBefore sheet n (priorityAt sheet (behind n)))
+    ∷ []
+
+-- End 17, 18: the end count differs from the rows read; bytes after the end record, at the first of them.
+abbrev pub endOrder : List ℕ → (rows : ℕ) → List Check
+endOrder sheet n =
+    check 17 (behind n) (not (eqb (byte sheet (behind n + 1)) n))
+    ∷ check 18 (behind n + 2) (ltb (behind n + 2) (length sheet))
+    ∷ []
+
+-- A later record, after the board and so many rows: 13 where it is a board; then as a row or as an end.
+abbrev pub laterOrder : List ℕ → (rows : ℕ) → List Check
+laterOrder sheet n =
+    commonOrder sheet (behind n) (eqb (byte sheet (behind n)) 1)
+    ++ cond (eqb (byte sheet (behind n)) 2) (rowOrder sheet n) (endOrder sheet n)
+
+-- None of these checks fails.
+abbrev pub AllPass : List Check → Type 0
+AllPass checks = Each (λ one. one .fails ≡ false) checks
+
+-- The board record and the first rows, so many, fail no check: the board record first and once, then rows.
+abbrev pub RowsPass : List ℕ → (rows : ℕ) → Type 0
+RowsPass sheet zero = AllPass (boardOrder sheet)
+RowsPass sheet (suc n) = RowsPass sheet n × AllPass (laterOrder sheet n) × (byte sheet (behind n) ≡ 2)
+
+-- The sheet's first fault, records as they stand: the first check that fails, of the board record or of the
+-- record after so many rows.
+pub data FirstFault (sheet : List ℕ) (one : Check) : Type 0 where
+  at-the-board : FirstFailing (boardOrder sheet) one → FirstFault sheet one
+  after-rows : (n : ℕ) → RowsPass sheet n → FirstFailing (laterOrder sheet n) one → FirstFault sheet one
+
+-- A sheet without fault, of so many rows: after them comes an end record that fails no check.
+pub record WholeWith (sheet : List ℕ) (n : ℕ) : Type 0 where
+  pub rows-pass : RowsPass sheet n
+  pub end-passes : AllPass (laterOrder sheet n)
+  pub is-end : byte sheet (behind n) ≡ 3
+
+-- A sheet is turned away with a number and a place. A refused sheet yields no table.
+pub record TurnedAway (number place : ℕ) (outcome : Outcome) : Type 0 where
+  pub answers : outcome .verdict ≡ Refused number place
+  pub on-paper : paperOf (outcome .verdict) ≡ paper number place
+  pub no-entries : entriesOf (outcome .sheet) ≡ []
+  pub no-rows : rowsOf (tableOf (outcome .sheet)) ≡ []
+
+-- A sheet with a fault is turned away by its first one.
+abbrev pub SheetTurnedAway : Type 0
+SheetTurnedAway =
+    (sheet : List ℕ) (one : Check) → FirstFault sheet one
+    → TurnedAway (one .number) (one .place) (readOf sheet)
+
+-- A sheet without fault is taken.
+abbrev pub SheetTaken : Type 0
+SheetTaken = (sheet : List ℕ) (n : ℕ) → WholeWith sheet n → readOf sheet .verdict ≡ Sound
+
+-- A sheet without fault is a board record, rows, an end record and nothing more: at most 550 bytes.
+abbrev pub WholeLength : Type 0
+WholeLength =
+    (sheet : List ℕ) (n : ℕ) → WholeWith sheet n → (length sheet ≡ 4 + 17 * n + 2) × (n ≤ 32) × (length sheet ≤ 550)
+
+-- A sheet that is taken is without fault; one that is refused has a first fault of that number and place.
+abbrev pub TakenSheetIsWhole : Type 0
+TakenSheetIsWhole = (sheet : List ℕ) → readOf sheet .verdict ≡ Sound → (n : ℕ) × WholeWith sheet n
+
+abbrev pub RefusedSheetHasFault : Type 0
+RefusedSheetHasFault =
+    (sheet : List ℕ) (number place : ℕ) → readOf sheet .verdict ≡ Refused number place
+    → (one : Check) × FirstFault sheet one × (one .number ≡ number) × (one .place ≡ place)
+
+-- Every sheet is without fault, or it has a first one.
+abbrev pub SheetEither : Type 0
+SheetEither = (sheet : List ℕ) → ((n : ℕ) × WholeWith sheet n) ⊎ ((one : Check) × FirstFault sheet one)
+
+-- A sheet that ends where a record should start is turned away by 11 at its length: behind a board and rows,
+-- and the empty sheet at 0.
+pub record NoByteAtTheEnd : Type 0 where
+  pub behind-rows : (sheet : List ℕ) (n : ℕ) → RowsPass sheet n → length sheet ≡ behind n
+      → TurnedAway 11 (length sheet) (readOf sheet)
+  pub empty : TurnedAway 11 0 (readOf [])
+
+-- Each time becomes ticks by whole division by the tick length, the remainder dropped.
+pub record InTicks (tick time ticks : ℕ) : Type 0 where
+  pub no-more : ticks * tick ≤ time
+  pub no-less : time < (ticks + 1) * tick
+
+-- An entry is read of the row record that begins at this place.
+pub record RowRead (sheet : List ℕ) (place : ℕ) (entry : Entry) : Type 0 where
+  pub label : entry .label ≡ labelAt sheet place
+  pub priority : entry .priority ≡ priorityAt sheet place
+  pub c : InTicks (tickOf sheet) (fourBytes sheet (place + 5)) (entry .row .c .0)
+  pub d : InTicks (tickOf sheet) (fourBytes sheet (place + 9)) (entry .row .d .0)
+  pub t : InTicks (tickOf sheet) (fourBytes sheet (place + 13)) (entry .row .t .0)
+
+-- The table in rising priority: each entry has a smaller priority number than every one below it.
+abbrev pub RisingPriority : List Entry → Type 0
+RisingPriority entries =
+    (i j : ℕ) → i < j → j < length entries
+    → getD entries i noEntry .priority < getD entries j noEntry .priority
+
+-- What is read of a sheet of so many rows: the board's cores and tick length, and its rows, each once, in
+-- rising priority with their labels: the first entries of the answer, as many as it counts, and so its table.
+-- `in-sheet-order` are the entries in the order of the records.
+pub record SheetRead (sheet : List ℕ) (n : ℕ) (answer : Sheet) : Type 0 where
+  pub in-sheet-order : List Entry
+  pub as-many : length in-sheet-order ≡ n
+  pub each-row : (i : ℕ) → i < n → RowRead sheet (behind i) (getD in-sheet-order i noEntry)
+  pub each-once : Permuted in-sheet-order (entriesOf answer)
+  pub rising : RisingPriority (entriesOf answer)
+  pub counted : length (entriesOf answer) ≡ n
+  pub count : answer .count ≡ n
+  pub listed : entriesOf answer ≡ take n (answer .entries)
+  pub table : rowsOf (tableOf answer) ≡ map (λ (entry : Entry). entry .row) (entriesOf answer)
+  pub table-count : tableOf answer .count ≡ n
+  pub table-rows : take n (tableOf answer .rows) ≡ map (λ (entry : Entry). entry .row) (entriesOf answer)
+  pub cores : answer .cores ≡ coresOf sheet
+  pub tick : answer .tick .0 ≡ tickOf sheet
+
+-- A reader of sheets takes each sheet without fault, and answers what stands on it.
+abbrev pub SheetsRead : (List ℕ → Outcome) → Type 0
+SheetsRead read =
+    (sheet : List ℕ) (n : ℕ) → WholeWith sheet n
+    → (read sheet .verdict ≡ Sound) × SheetRead sheet n (read sheet .sheet)
+
+-- That leaves one answer: the same entries and the same rows.
+abbrev pub OneReading : Type 0
+OneReading =
+    (sheet : List ℕ) (n : ℕ) (a b : Sheet) → SheetRead sheet n a → SheetRead sheet n b
+    → (entriesOf a ≡ entriesOf b) × (rowsOf (tableOf a) ≡ rowsOf (tableOf b))
+    × (a .cores ≡ b .cores) × (a .tick .0 ≡ b .tick .0)

@@ -1,0 +1,102 @@
+-- The whole way, from the bytes of a sheet to the text that the desk signs: the rows read are those judged.
+use Prim.Native.Nat.{ℕ, zero, suc, _+_, _*_, _≤_, _<_}
+use mathlib.Core.Path.{_≡_}
+use mathlib.Core.List.{List, [], _∷_, _++_, map}
+use lib.ListN.{length, getD, take, drop}
+use Rattle.quantities.specs.declared.Row.{Row}
+use Rattle.quantities.specs.Checks.{Check, FirstFailing}
+use Rattle.windows.specs.declared.Answer.the-variants.{Shown, NotShown}
+use Rattle.sheet.specs.declared.Entry.{Entry}
+use Rattle.sheet.specs.declared.Sheet.{Sheet}
+use Rattle.sheet.specs.Entries.{noEntry, entriesOf}
+use Rattle.lines.specs.Words.{ascii}
+use Rattle.lines.specs.Decimal.{decimal}
+use Rattle.text.specs.Printed.{Printed}
+use Rattle.text.specs.Text.{textOf}
+use Rattle.promises.specs.Lists.{listOrder, ListInRange}
+use Rattle.promises.specs.Sheets.{coresOf, tickOf, WholeWith, FirstFault, SheetRead}
+use Rattle.promises.specs.Windows.{JudgedBy}
+
+-- A number is printed in decimal: a digit below ten, or the digits of its tenth, which is not 0, and then the
+-- last one.
+pub data Digits : ℕ → List ℕ → Type 0 where
+  one : (digit : ℕ) → digit < 10 → Digits digit ((48 + digit) ∷ [])
+  more : (tenth digit : ℕ) (bytes : List ℕ) → 0 < tenth → digit < 10 → Digits tenth bytes
+      → Digits (tenth * 10 + digit) (bytes ++ ((48 + digit) ∷ []))
+
+abbrev pub InDecimal : Type 0
+InDecimal = (n : ℕ) → Digits n (decimal n)
+
+-- First line: cores, tick length in µs, number of rows. Row lines: place, label, bound, D.
+abbrev pub firstText : (cores tick rows : ℕ) → List ℕ
+firstText cores tick rows =
+    ascii "cores " ++ decimal cores ++ ascii " tick " ++ decimal tick ++ ascii " rows " ++ decimal rows ++ ascii "\n"
+
+abbrev pub rowText : (place label bound d : ℕ) → List ℕ
+rowText place label bound d =
+    decimal place ++ ascii " " ++ decimal label ++ ascii " " ++ decimal bound ++ ascii " " ++ decimal d ++ ascii "\n"
+
+-- the lines of the first so many rows with their bounds; the row with index k stands at place k + 1
+abbrev pub rowTexts : List Entry → List ℕ → ℕ → List ℕ
+rowTexts entries bounds zero = []
+rowTexts entries bounds (suc k) =
+    rowTexts entries bounds k
+    ++ rowText (suc k) (getD entries k noEntry .label) (getD bounds k 0) (getD entries k noEntry .row .d .0)
+
+abbrev pub notShownText : (place label : ℕ) → List ℕ
+notShownText place label = ascii "not shown " ++ decimal place ++ ascii " " ++ decimal label ++ ascii "\n"
+
+-- For every other number: only `refused NUMBER PLACE`.
+abbrev pub refusedText : (number place : ℕ) → List ℕ
+refusedText number place = ascii "refused " ++ decimal number ++ ascii " " ++ decimal place ++ ascii "\n"
+
+-- the rows of entries
+abbrev pub rowsIn : List Entry → List Row
+rowsIn entries = map (λ (entry : Entry). entry .row) entries
+
+-- The text for entries on a board with so many cores and this tick length is that of the judgement of their
+-- own rows: each line has the label and D of the row whose bound stands there.
+pub data TextOf (cores tick : ℕ) (entries : List Entry) (text : List ℕ) : Type 0 where
+  turned-away : (first : Check) → FirstFailing (listOrder cores (rowsIn entries)) first
+      → text ≡ refusedText (first .number) (first .place)
+      → TextOf cores tick entries text
+  all-shown : (bounds : List ℕ) → ListInRange cores (rowsIn entries)
+      → JudgedBy cores (rowsIn entries) (record { answer = Shown; bounds = bounds })
+      → text ≡ firstText cores tick (length entries) ++ rowTexts entries bounds (length entries) ++ ascii "all shown\n"
+      → TextOf cores tick entries text
+  not-shown : (before : ℕ) (bounds : List ℕ) → ListInRange cores (rowsIn entries)
+      → JudgedBy cores (rowsIn entries) (record { answer = NotShown (suc before); bounds = bounds })
+      → text
+      ≡ firstText cores tick (length entries) ++ rowTexts entries bounds before
+      ++ notShownText (suc before) (getD entries before noEntry .label)
+      → TextOf cores tick entries text
+
+-- The whole way of a sheet with n rows without fault: the rows of its records in rising priority number, and
+-- the text of the judgement of these rows, on the sheet's own cores.
+pub record WholeWay (sheet : List ℕ) (n : ℕ) (text : List ℕ) : Type 0 where
+  pub found : Sheet
+  pub reads : SheetRead sheet n found
+  pub prints : TextOf (coresOf sheet) (tickOf sheet) (entriesOf found) text
+
+-- A tool that prints a text for the bytes of a sheet goes the whole way; a sheet with a fault is answered by
+-- its first one.
+pub record GoesTheWholeWay (tool : List ℕ → List ℕ) : Type 0 where
+  pub whole : (sheet : List ℕ) (n : ℕ) → WholeWith sheet n → WholeWay sheet n (tool sheet)
+  pub faulty : (sheet : List ℕ) (first : Check) → FirstFault sheet first
+      → tool sheet ≡ refusedText (first .number) (first .place)
+
+-- No tool that does prints another text than ours, for any sheet.
+abbrev pub OneText : Type 0
+OneText = (tool : List ℕ → List ℕ) → GoesTheWholeWay tool → (sheet : List ℕ) → tool sheet ≡ textOf sheet
+
+-- `print_answer` lays this text at the front of a lent buffer and leaves every later byte; a buffer with less
+-- than 2,856 bytes is left as it was, and none of its bytes is the text.
+abbrev pub TextInFront : Type 0
+TextInFront =
+    (sheet buffer after : List ℕ) (count : ℕ) → Printed sheet buffer after count
+    → (2856 ≤ length buffer → (take count after ≡ textOf sheet) × (drop count after ≡ drop count buffer))
+    × (length buffer < 2856 → (after ≡ buffer) × (count ≡ 0))
+
+-- The program reads at most 1,024 bytes: what follows makes no difference.
+abbrev pub First1024 : Type 0
+First1024 = (sheet : List ℕ) → textOf (take 1024 sheet) ≡ textOf sheet
