@@ -25,11 +25,12 @@ use Rattle.bench.specs.Refusal.{tooSoon, paperOf}
 use Rattle.bench.specs.Step.{Step, release}
 use Rattle.bench.specs.History.{Call, releases, ticks, doCall, after}
 use Rattle.bench.specs.Rules.{callChecks, TurnedAway}
+use Rattle.bench.proofs.Rules.{refused-unchanged}
 use Rattle.bench.proofs.Rules.{release-checks, tick-checks, call-turned-away as by-checks}
 use Rattle.bench.proofs.Rules.{call-taken as taken-by-checks, refused-call-has-fault as refused-by-checks}
 use Rattle.promises.specs.Calls.{rowsOn, rowOn, stateOn, OnBoard}
 use Rattle.promises.specs.Calls.{RecordBroken, released-later, Gives29, tooEarly, callOrder}
-use Rattle.promises.specs.Calls.{CallTurnedAway, CallTaken, RefusedCallHasFault}
+use Rattle.promises.specs.Calls.{RefusedChangesNothing, CallTurnedAway, CallTaken, RefusedCallHasFault}
 use Rattle.promises.specs.Calls.{Ready, GapPermitted, FirstReleasePermitted}
 use Rattle.promises.proofs.Broken.{broken-breaks, breaks-broken, unbroken}
 
@@ -237,3 +238,13 @@ gap-permitted b place demand at ready q =
 
 pub first-release-permitted : FirstReleasePermitted
 first-release-permitted b place demand ready q = ready-taken b place demand ready (rw q refl)
+
+pub refused-changes-nothing : RefusedChangesNothing
+refused-changes-nothing =
+    record {
+      turned-away = λ b number place step. (
+        λ t. record { on-paper = t .on-paper; none-end = t .none-end; same-bench = t .same-bench },
+        λ r. record { on-paper = r .on-paper; none-end = r .none-end; same-bench = r .same-bench },
+      );
+      unchanged = refused-unchanged;
+    }

@@ -25,6 +25,7 @@ use Rattle.promises.specs.Lent.{
   LentJudged,
   ByValue,
   TripleIsRow,
+  TriplesInOrder,
   CallersInC,
 }
 use Rattle.promises.proofs.Lists.{lent-order, fault-of-first, turned-by, sound-in-range}
@@ -106,6 +107,9 @@ by-value j few =
 
 pub triple-is-row : TripleIsRow
 triple-is-row c d t = (refl, refl, refl)
+
+pub triples-in-order : TriplesInOrder
+triples-in-order = record { none = refl; one = λ triple rest. refl }
 
 pub callers-in-c : CallersInC
 callers-in-c cores triples before after code exported =

@@ -17,11 +17,11 @@ use Rattle.bench.specs.History.{Call, releases, ticks, doCall, after, steps}
 use Rattle.running.specs.Running.{LessAgo, EndsInTime, NotUnfinished}
 use Rattle.running.proofs.Running.{bounds-hold}
 use Rattle.lentbench.specs.Lent.{LentAnswer, toTick, LentRun, over, released, ticked}
-use Rattle.lentbench.specs.Lent.{tickAnswerOf, answerTo, answersTo}
+use Rattle.lentbench.specs.Lent.{tickAnswerOf, ticksFor, answerTo, answersTo}
 use Rattle.lentbench.proofs.Lent.{lent-run}
 use Rattle.promises.specs.Polls.{boundFor, stateOf, ticksAmong, ListsNone, EndsWithin, PollStarts}
 use Rattle.promises.specs.LentPolls.{pollsIn, outcomeIn, ticksHeard, LentRunsOn, LentRunsHistory}
-use Rattle.promises.specs.LentPolls.{ReleasedWithin, LentBoundsHold, HeardWithin, LentPollsEnd}
+use Rattle.promises.specs.LentPolls.{LentCallsAnswer, ReleasedWithin, LentBoundsHold, HeardWithin, LentPollsEnd}
 use Rattle.promises.proofs.Polls.{polls-end-in-ticks}
 
 -- The polls that a tick is heard to list are those of its step.
@@ -145,3 +145,15 @@ lent-polls-end cores table start is calls b heard run place demand first within 
     let ends =
     polls-end-in-ticks cores table start calls place demand starts more (omega arith) (rw same at early) in
     rw (hears, leaves) (heard-within _ more place _ _ ends)
+
+pub lent-calls-answer : LentCallsAnswer
+unfolding ticksFor
+lent-calls-answer =
+    record {
+      of-release = λ b place demand left outcome.
+          (λ lent. (lent .leaves, lent .answers), λ given. record { leaves = given .0; answers = given .1 });
+      of-tick = λ b moved answer.
+          (λ lent. (lent .leaves, lent .answers), λ given. record { leaves = given .0; answers = given .1 });
+      no-ticks = refl;
+      one-tick-more = λ n. refl;
+    }

@@ -1,4 +1,5 @@
 -- The proofs of the three demands, of the pages that they stand on, of the fakes, and of the starred numbers.
+pub mod Words
 pub mod Lists
 pub mod Tables
 pub mod SheetsChecks
@@ -15,8 +16,10 @@ pub mod Calls
 pub mod Openings
 pub mod CallBytes
 pub mod Moves
+pub mod Histories
 pub mod Clock
 pub mod Waiting
+pub mod Below
 pub mod Polls
 pub mod LentPolls
 pub mod Promises

@@ -13,13 +13,14 @@ use Rattle.bench.specs.declared.RowState.{RowState}
 use Rattle.bench.specs.declared.Finish.{Finish}
 use Rattle.bench.specs.Record.{idle, work}
 use Rattle.bench.specs.Serving.{workers, less, total}
-use Rattle.bench.specs.Step.{tick}
+use Rattle.bench.specs.Step.{Step, tick}
 use Rattle.bench.specs.History.{Call, releases, ticks}
-use Rattle.bench.specs.Rules.{callChecks, PermittedCall}
+use Rattle.bench.specs.Rules.{callChecks, PermittedCall, TicksByRule}
 use Rattle.bench.specs.TickRule.{Gets, PollEnds, Rising}
-use Rattle.bench.proofs.Rules.{releases-by-rule, ticks-by-rule}
+use Rattle.bench.proofs.Rules.{tick-checks, releases-by-rule, ticks-by-rule}
+use Rattle.bench.proofs.OneStep.{one-tick}
 use Rattle.promises.specs.Calls.{rowsOn, stateOn, callOrder}
-use Rattle.promises.specs.Moves.{ReleaseStarts, working, remaining, IsServed, OneUnit, Finishing, RisingPlace, TickServes}
+use Rattle.promises.specs.Moves.{ReleaseStarts, working, remaining, IsServed, OneUnit, Finishing, RisingPlace, TickServes, NoOtherTick}
 use Rattle.promises.proofs.Calls.{first-of-call}
 
 -- A call that fails no check of the page is permitted.
@@ -134,7 +135,7 @@ rising-place place [] rising = tt
 rising-place place (poll ∷ polls) rising =
     (from-there (suc (poll .place)) polls (rising .1), rising-place (suc (poll .place)) polls (rising .1))
 
-pub tick-serves : TickServes
+pub tick-serves : TickServes tick
 tick-serves b room passed =
     let step = tick b in
     let rule = ticks-by-rule b room (permitted b ticks passed) in
@@ -153,3 +154,45 @@ tick-serves b room passed =
       no-other = each-map (finishing b) (step .finishes) (rule .no-other);
       rising = rising-place 1 (step .finishes) (rule .rising);
     }
+
+-- The other way round: what ticks as the page says keeps the bench's own rule.
+less-one : (state after : RowState) → OneUnit state after → after ≡ less 1 state
+unfolding less
+less-one state after u =
+    let left : after .left .0 ≡ work state - 1 = omega (arith, u .remains) in
+    rw (← u .last, ← u .demand, ← left) refl
+
+rising-from : (place : ℕ) (polls : List Finish) → Each (λ (lower : Finish). place ≤ lower .place) polls
+    → RisingPlace polls → Rising place polls
+rising-from place [] low rising = tt
+rising-from place (poll ∷ polls) low rising =
+    (low .0, rising-from (suc (poll .place)) polls (rising .0) (rising .1))
+
+pub keeps-the-rule : (run : Bench → Step) → TickServes run → TicksByRule run
+keeps-the-rule run serves b room may =
+    let step = run b in
+    let t = serves b room (rw (tick-checks b) at may) in
+    let n = length (rowsOn b) in
+    let same : rowsOn (step .bench) ≡ rowsOn b = rw (t .board .table) refl in
+    let left = rw (remaining-down b n, remaining-down (step .bench) n, working-down b n) at (t .how-many) in
+    record {
+      outcome = t .outcome;
+      clock = omega (arith, t .clock);
+      board = (t .board .cores, t .board .table);
+      one-unit = λ place g.
+          less-one (stateOn b place) (stateOn (step .bench) place) (t .one-unit place (is-served b place g));
+      no-unit = λ place low not. t .no-unit place low (λ s. not (gets b place s));
+      as-many = t .board .states;
+      how-many = rw (ap length same) left;
+      listed = λ poll e. t .listed poll (finishing b poll e);
+      no-other = each-map (ends b) (step .finishes) (t .no-other);
+      rising =
+          rising-from 1 (step .finishes)
+          (each-map (λ (poll : Finish) (f : Finishing b poll). f .served .on-board .first) (step .finishes) (t .no-other))
+          (t .rising);
+    }
+
+pub no-other-tick : NoOtherTick
+no-other-tick run serves b room passed =
+    let may = permitted b ticks passed in
+    one-tick b (run b) (tick b) (keeps-the-rule run serves b room may) (ticks-by-rule b room may)

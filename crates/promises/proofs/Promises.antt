@@ -1,8 +1,6 @@
 -- The three demands hold.
 use Rattle.sheet.proofs.Readings.{read-to-means}
-use Rattle.bench.proofs.Rules.{refused-unchanged, books-balance}
 use Rattle.running.proofs.Running.{bounds-hold}
-use Rattle.running.proofs.Below.{rows-below}
 use Rattle.running.proofs.Replayed.{replay-in-time}
 use Rattle.promises.specs.Promises.{Demand1, Demand2, Demand3}
 use Rattle.promises.proofs.Sheets.{sheet-either, sheet-taken, taken-sheet-is-whole, sheet-turned-away}
@@ -12,22 +10,24 @@ use Rattle.promises.proofs.Lists.{faulty-list-turned-away, refused-list
 use Rattle.promises.proofs.Lists.{cores-to-16, rows-to-32, gaps-to-1000000}
 use Rattle.promises.proofs.Tables.{named-limits, table-made, table-checked}
 use Rattle.promises.proofs.Lent.{lent-answered, lent-turned-away, refused-lent-has-fault, lent-judged}
-use Rattle.promises.proofs.Lent.{of-lengths, by-value, triple-is-row, callers-in-c}
+use Rattle.promises.proofs.Lent.{of-lengths, by-value, triple-is-row, triples-in-order, callers-in-c}
 use Rattle.promises.proofs.Broken.{broken-exactly}
 use Rattle.promises.proofs.Calls.{gives-29, call-turned-away, call-taken, refused-call-has-fault}
-use Rattle.promises.proofs.Calls.{gap-permitted, first-release-permitted}
+use Rattle.promises.proofs.Calls.{refused-changes-nothing, gap-permitted, first-release-permitted}
 use Rattle.promises.proofs.Openings.{opening-refused, opening-taken, opened-holds, refusal-numbers}
 use Rattle.promises.proofs.Openings.{clock-to-1000000000, ended-listed, calls-answered}
 use Rattle.promises.proofs.CallBytes.{requests-read, requests-done, poll-comes-back, polls-fit-bytes, answer-comes-back}
 use Rattle.promises.proofs.CallBytes.{replay-answered, replay-no-room, replay-not-opened}
-use Rattle.promises.proofs.Moves.{release-starts, tick-serves}
-use Rattle.promises.proofs.Windows.{judged-right, one-judgement-by-rules, largest-total, floor-form}
+use Rattle.promises.proofs.Moves.{release-starts, tick-serves, no-other-tick}
+use Rattle.promises.proofs.Windows.{judged-right, one-judgement-by-rules, largest-total, floor-form, formulas-answered}
 use Rattle.promises.proofs.Solution.{bounds-solve}
 use Rattle.promises.proofs.Patterns.{plain-is-largest, carry-is-largest, no-more-than-carry}
-use Rattle.promises.proofs.Tool.{goes-the-whole-way, one-text-printed, in-decimal, text-at-the-front, first-1024}
+use Rattle.promises.proofs.Tool.{goes-the-whole-way, one-text-printed, in-decimal, words-in-bytes, text-at-the-front, first-1024}
 use Rattle.promises.proofs.Clock.{clock-counts}
 use Rattle.promises.proofs.Polls.{polls-end, polls-end-in-ticks, polls-end-or-wait}
-use Rattle.promises.proofs.LentPolls.{lent-runs-on, lent-runs-history, lent-bounds-hold, lent-polls-end}
+use Rattle.promises.proofs.LentPolls.{lent-calls-answer, lent-runs-on, lent-runs-history, lent-bounds-hold, lent-polls-end}
+use Rattle.promises.proofs.Histories.{history-runs, books}
+use Rattle.promises.proofs.Below.{answer-from-above, run-from-above}
 
 pub demand-1 : Demand1
 demand-1 =
@@ -66,7 +66,8 @@ demand-1 =
             turned-away = lent-turned-away;
             refused = refused-lent-has-fault;
             by-value = by-value;
-            triples = triple-is-row;
+            triple = triple-is-row;
+            triples = triples-in-order;
             in-c = callers-in-c;
           };
       benches =
@@ -79,13 +80,14 @@ demand-1 =
             turned-away = call-turned-away;
             taken = call-taken;
             refused = refused-call-has-fault;
-            unchanged = refused-unchanged;
+            unchanged = refused-changes-nothing;
             numbers = refusal-numbers;
             gap = gap-permitted;
             first-release = first-release-permitted;
             clock = clock-to-1000000000;
             releases = release-starts;
             ticks = tick-serves;
+            no-other-tick = no-other-tick;
             listed = ended-listed;
             functions = calls-answered;
           };
@@ -119,10 +121,12 @@ demand-2 =
       largest-total = largest-total;
       floor-form = floor-form;
       least-solution = bounds-solve;
+      formulas = formulas-answered;
       largest-plain = plain-is-largest;
       largest-carry = carry-is-largest;
       carry-in-short-windows = no-more-than-carry;
       digits = in-decimal;
+      words = words-in-bytes;
       printed = text-at-the-front;
       first-bytes = first-1024;
     }
@@ -139,7 +143,10 @@ demand-3 =
       lent-histories = lent-runs-history;
       lent-holds = lent-bounds-hold;
       lent-polls-end = lent-polls-end;
-      books = books-balance;
-      below = rows-below;
+      lent-calls = lent-calls-answer;
+      histories = history-runs;
+      books = books;
+      answer-from-above = answer-from-above;
+      run-from-above = run-from-above;
       in-code = replay-in-time;
     }

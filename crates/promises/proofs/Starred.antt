@@ -1,9 +1,30 @@
 -- Every starred number of document 01 holds of the definitions.
+use mathlib.Core.Path.{refl}
 use Rattle.laws.specs.Each.{Each}
-use Rattle.laws.proofs.Lists.{each-append}
-use Rattle.windows.specs.Starred.{claims as list-claims, starred as list-starred}
-use Rattle.bench.specs.Starred.{claims as bench-claims, starred as bench-starred}
+use Rattle.quantities.specs.Checks.{rowChecks, rowsChecks, listChecks, roomChecks, firstFailing, faultFrom, listFault, lentFault}
+use Rattle.quantities.specs.Table.{rowsOf}
+use Rattle.windows.specs.Window.{plain, carry, limit, interference}
+use Rattle.windows.specs.Choice.{most, passes}
+use Rattle.windows.specs.Least.{firstOf, least}
+use Rattle.windows.specs.Bound.{window, boundsBelow}
+use Rattle.windows.specs.Answer.{verdict, judgedAfter, judged, judgedInto, written, paperOf}
+use Rattle.bench.specs.Record.{lastBroken, rowBroken, rowsBroken, isFault, broken}
+use Rattle.bench.specs.Refusal.{firstRefusal, tooSoon, releaseTests, tickTests}
+use Rattle.bench.specs.Serving.{unit, units, less, worked, ends, since, finishOf, finished}
+use Rattle.bench.specs.Step.{emptyBench, openedAfter, opened, unless, started, release, served, moved, taken, tick}
+use Rattle.bench.specs.History.{after}
 use Rattle.promises.specs.Starred.{claims}
 
+infixr 4 _&_
+_&_ : {A B : Type 0} → A → B → A × B
+a & b = (a, b)
+
 pub starred : Each (λ claim. claim) claims
-starred = each-append (λ claim. claim) list-claims bench-claims list-starred bench-starred
+unfolding plain carry limit interference most passes firstOf least window boundsBelow verdict judgedAfter judged judgedInto
+    written paperOf rowsOf rowChecks rowsChecks listChecks roomChecks firstFailing faultFrom listFault lentFault lastBroken
+    rowBroken rowsBroken isFault broken firstRefusal tooSoon releaseTests tickTests unit units less worked ends since finishOf
+    finished emptyBench openedAfter opened unless started release served moved taken tick after
+starred =
+    refl & refl & refl & refl & refl & refl & refl
+    & refl & refl & refl & refl & refl & refl & refl & refl & refl & refl & refl & refl & refl & refl
+    & refl & refl & tt

@@ -38,6 +38,7 @@ use Rattle.promises.specs.Tool.{
   one,
   more,
   InDecimal,
+  WordsInBytes,
   firstText,
   rowTexts,
   notShownText,
@@ -71,6 +72,19 @@ digits-below (suc most) n h =
 
 pub in-decimal : InDecimal
 in-decimal n = digits-below (suc n) n (omega arith)
+
+pub words-in-bytes : WordsInBytes
+words-in-bytes =
+    record {
+      line-end = refl;
+      space = refl;
+      cores = refl;
+      tick = refl;
+      rows = refl;
+      all-shown = refl;
+      not-shown = refl;
+      refused = refl;
+    }
 
 -- The lines on the page are the definitions' own.
 three-numbers : (a b c d e f g : List ℕ) → (a ++ b) ++ (c ++ d) ++ (e ++ f) ++ g ≡ a ++ b ++ c ++ d ++ e ++ f ++ g

@@ -37,6 +37,7 @@ use Rattle.promises.specs.Windows.{
   AddUpTo,
   LargestTotal,
   FloorForm,
+  FormulasAnswered,
 }
 use Rattle.promises.proofs.Lists.{sound-in-range}
 
@@ -278,3 +279,8 @@ floor-form M rows bounds k x Ω cores low largest =
           (largest .no-more _ (record { carries = carries; few = few; adds-up = refl }))
           (floor .1 fits),
     )
+
+pub formulas-answered : FormulasAnswered
+unfolding plain carry limit interference
+formulas-answered =
+    record { without = λ row x. refl; carrying = λ row r x. refl; limited = λ own x w. refl }

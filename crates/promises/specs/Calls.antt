@@ -111,6 +111,19 @@ abbrev pub callOrder : Bench → Call → List Check
 callOrder b (releases place demand) = releaseOrder b place demand
 callOrder b ticks = tickOrder b
 
+-- A call is turned away with a number and a place: no poll ends, and nothing changes on the bench.
+pub record Refuses (b : Bench) (number place : ℕ) (step : Step) : Type 0 where
+  pub on-paper : paperOf (step .outcome) ≡ paper number place
+  pub none-end : step .finishes ≡ []
+  pub same-bench : step .bench ≡ b
+
+-- That is what `TurnedAway` says here. A refused bench call changes nothing on the bench.
+pub record RefusedChangesNothing : Type 0 where
+  pub turned-away : (b : Bench) (number place : ℕ) (step : Step)
+      → TurnedAway b number place step ↔ Refuses b number place step
+  pub unchanged : (b : Bench) (call : Call) (why : Refusal) → doCall b call .outcome ≡ Refused why
+      → (doCall b call .finishes ≡ []) × (doCall b call .bench ≡ b)
+
 -- A call is turned away by the first check that fails, with its number and place, and nothing changes;
 abbrev pub CallTurnedAway : Type 0
 CallTurnedAway =

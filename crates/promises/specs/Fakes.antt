@@ -1,4 +1,4 @@
--- The fakes that demand 2 has to catch: those of document 01, and a tool that judges rows out of order.
+-- The fakes that have to be caught: those of document 01, and a tool that judges rows out of order.
 use Prim.Native.Nat.{ℕ, _<_}
 use mathlib.Core.Path.{_≡_}
 use mathlib.Core.List.{List, [], _∷_}
@@ -13,7 +13,9 @@ use Rattle.sheet.specs.Reader.{readOf}
 use Rattle.sheet.specs.declared.Verdict.the-variants.{Sound, Refused}
 use Rattle.text.specs.Text.{judgedText}
 use Rattle.promises.specs.Sheets.{behind, WholeWith, RowRead}
+use Rattle.bench.specs.Fakes.{once, inventing}
 use Rattle.promises.specs.Lent.{Lending}
+use Rattle.promises.specs.Moves.{TickServes}
 use Rattle.promises.specs.Tool.{refusedText}
 use Rattle.promises.specs.Promises.{Reader, Judge, Tool, Demand2For}
 
@@ -63,7 +65,12 @@ abbrev pub AsTheRecordsStand : (List Row → List Row) → Type 0
 AsTheRecordsStand order =
     order (rowOf 2 5 5 ∷ rowOf 3 8 8 ∷ rowOf 2 4 10 ∷ []) ≡ rowOf 2 5 5 ∷ rowOf 2 4 10 ∷ rowOf 3 8 8 ∷ []
 
--- Demand 2 holds of none of them, whatever the rest of the tool is.
+-- A bench that serves rightly in its first tick and idles later, or one that invents response times: the tick
+-- rule of page Moves holds for neither.
+abbrev pub FakeTicksCaught : Type 0
+FakeTicksCaught = (TickServes once → ⊥) × (TickServes inventing → ⊥)
+
+-- Demand 2 holds of none of the others, whatever the rest of the tool is.
 module _ (read : Reader) (judge : Judge) (lend : Lending) (tool : Tool) where
   pub record FakesCaught : Type 0 where
     pub turns-away : Demand2For read judge lend tool → TurnsEverythingAway judge → ⊥

@@ -98,6 +98,11 @@ TripleIsRow =
     × (rowFrom (c ∷ d ∷ t ∷ []) .d .0 ≡ d)
     × (rowFrom (c ∷ d ∷ t ∷ []) .t .0 ≡ t)
 
+-- Its list of triples is the list of these rows.
+pub record TriplesInOrder : Type 0 where
+  pub none : rowsFrom [] ≡ []
+  pub one : (triple : List ℕ) (rest : List (List ℕ)) → rowsFrom (triple ∷ rest) ≡ rowFrom triple ∷ rowsFrom rest
+
 -- It is answered as the lent analysis of these rows answers, with the number times 2 to the 32nd plus the
 -- place.
 pub record ToC (cores : ℕ) (rows : List Row) (before after : List ℕ) (code : ℕ) : Type 0 where

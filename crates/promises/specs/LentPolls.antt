@@ -15,9 +15,11 @@ use Rattle.bench.specs.declared.Finish.{Finish}
 use Rattle.bench.specs.declared.Outcome.{Outcome}
 use Rattle.bench.specs.declared.Outcome.the-variants.{Taken}
 use Rattle.bench.specs.Refusal.{paperOf}
-use Rattle.bench.specs.Step.{opened, release}
-use Rattle.bench.specs.History.{Call}
+use Rattle.bench.specs.Ended.{finishesOf}
+use Rattle.bench.specs.Step.{opened, release, tick}
+use Rattle.bench.specs.History.{Call, ticks}
 use Rattle.lentbench.specs.declared.TickAnswer.{TickAnswer}
+use Rattle.lentbench.specs.Lent.{LentTick, ticksFor}
 use Rattle.lentbench.specs.Lent.{LentRelease, LentAnswer, toRelease, toTick, LentRun, RunsHistory}
 use Rattle.promises.specs.Polls.{boundsFor, boundFor, stateOf, ListsNone, Lists}
 
@@ -36,6 +38,19 @@ abbrev pub ticksHeard : List LentAnswer → ℕ
 ticksHeard [] = 0
 ticksHeard (toRelease outcome ∷ heard) = ticksHeard heard
 ticksHeard (toTick answer ∷ heard) = suc (ticksHeard heard)
+
+-- A release or a tick of a lent bench leaves it as the step leaves it, and answers what the step answers: its
+-- outcome, and of a tick the list of its polls. `run` is as many ticks as its length says.
+pub record LentCallsAnswer : Type 0 where
+  pub of-release : (b : Bench) (place demand : ℕ) (left : Bench) (outcome : Outcome)
+      → LentRelease (release b place demand) left outcome
+      ↔ ((left ≡ release b place demand .bench) × (outcome ≡ release b place demand .outcome))
+  pub of-tick : (b moved : Bench) (answer : TickAnswer)
+      → LentTick (tick b) moved answer
+      ↔ ((moved ≡ tick b .bench)
+      × (answer ≡ record { outcome = tick b .outcome; finishes = finishesOf (tick b .finishes) }))
+  pub no-ticks : ticksFor 0 ≡ []
+  pub one-tick-more : (n : ℕ) → ticksFor (suc n) ≡ ticks ∷ ticksFor n
 
 -- Any calls can be made on a lent bench, one after the other, and such a loop is the run of their history.
 abbrev pub LentRunsOn : Type 0

@@ -1,4 +1,5 @@
 -- The page of promises, the pages that it stands on, the fakes that it catches, the starred numbers.
+pub mod Words
 pub mod Lists
 pub mod Tables
 pub mod Sheets
@@ -10,6 +11,8 @@ pub mod Tool
 pub mod Calls
 pub mod CallBytes
 pub mod Moves
+pub mod Histories
+pub mod Below
 pub mod Polls
 pub mod LentPolls
 pub mod Promises

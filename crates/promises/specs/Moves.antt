@@ -90,6 +90,12 @@ pub record Ticked (b : Bench) (step : Step) : Type 0 where
   pub no-other : Each (Finishing b) (step .finishes)
   pub rising : RisingPlace (step .finishes)
 
-abbrev pub TickServes : Type 0
-TickServes =
-    (b : Bench) → length (b .states) ≡ 32 → Each (λ one. one .fails ≡ false) (tickOrder b) → Ticked b (tick b)
+abbrev pub TickServes : (Bench → Step) → Type 0
+TickServes run =
+    (b : Bench) → length (b .states) ≡ 32 → Each (λ one. one .fails ≡ false) (tickOrder b) → Ticked b (run b)
+
+-- It leaves one step: whatever ticks so ticks as ours does.
+abbrev pub NoOtherTick : Type 0
+NoOtherTick =
+    (run : Bench → Step) → TickServes run
+    → (b : Bench) → length (b .states) ≡ 32 → Each (λ one. one .fails ≡ false) (tickOrder b) → run b ≡ tick b

@@ -1,6 +1,6 @@
 -- The three demands. Each is proved in proofs/Promises.antt, of the definitions that the contracts cite.
 -- The sentences stand on the pages beside this one, each with its numbers; the records below say which belong
--- to which demand.
+-- to which demand. Page Words has the words that they share.
 use Prim.Native.Nat.{ℕ}
 use mathlib.Core.List.{List}
 use Rattle.quantities.specs.declared.Row.{Row}
@@ -9,9 +9,8 @@ use Rattle.sheet.specs.Faults.{ReadToMeans}
 use Rattle.sheet.specs.Reader.{readOf}
 use Rattle.sheet.specs.declared.Outcome.{Outcome}
 use Rattle.text.specs.Text.{textOf}
-use Rattle.bench.specs.Rules.{RefusedUnchanged, BooksBalance}
+use Rattle.bench.specs.Step.{tick}
 use Rattle.running.specs.Running.{BoundsHold}
-use Rattle.running.specs.Below.{RowsBelow}
 use Rattle.running.specs.Replayed.{ReplayInTime}
 use Rattle.promises.specs.Sheets.{SheetEither, SheetTaken, TakenSheetIsWhole, SheetTurnedAway}
 use Rattle.promises.specs.Sheets.{RefusedSheetHasFault}
@@ -21,18 +20,20 @@ use Rattle.promises.specs.Lists.{FaultyListTurnedAway, RefusedListHasFau
 use Rattle.promises.specs.Lists.{CoresTo16, RowsTo32, GapsTo1000000}
 use Rattle.promises.specs.Tables.{NamedLimits, TableMade, TableChecked}
 use Rattle.promises.specs.Lent.{Lending, lent, LentAnswered, LentTurnedAway, RefusedLentHasFault}
-use Rattle.promises.specs.Lent.{OfLengths, LentJudged, ByValue, TripleIsRow, CallersInC}
+use Rattle.promises.specs.Lent.{OfLengths, LentJudged, ByValue, TripleIsRow, TriplesInOrder, CallersInC}
 use Rattle.promises.specs.Calls.{BrokenExactly, Gives29, CallTurnedAway, CallTaken, RefusedCallHasFault}
 use Rattle.promises.specs.Calls.{GapPermitted, FirstReleasePermitted, OpeningRefused, OpeningTaken}
-use Rattle.promises.specs.Calls.{OpenedHolds, RefusalNumbers, ClockTo1000000000, EndedListed, CallsAnswered}
+use Rattle.promises.specs.Calls.{RefusedChangesNothing, OpenedHolds, RefusalNumbers, ClockTo1000000000, EndedListed, CallsAnswered}
 use Rattle.promises.specs.CallBytes.{RequestsRead, RequestsDone, PollComesBack, PollsFit, AnswerComesBack}
 use Rattle.promises.specs.CallBytes.{ReplayAnswered, ReplayNoRoom, ReplayNotOpened}
-use Rattle.promises.specs.Moves.{ReleaseStarts, TickServes}
-use Rattle.promises.specs.Windows.{JudgedRight, OneJudgement, LargestTotal, FloorForm, BoundsSolve}
+use Rattle.promises.specs.Moves.{ReleaseStarts, TickServes, NoOtherTick}
+use Rattle.promises.specs.Windows.{JudgedRight, OneJudgement, LargestTotal, FloorForm, BoundsSolve, FormulasAnswered}
 use Rattle.promises.specs.Patterns.{PlainIsLargest, CarryIsLargest, NoMoreThanCarry}
-use Rattle.promises.specs.Tool.{GoesTheWholeWay, OneText, InDecimal, TextInFront, First1024}
+use Rattle.promises.specs.Tool.{GoesTheWholeWay, OneText, InDecimal, WordsInBytes, TextInFront, First1024}
 use Rattle.promises.specs.Polls.{ClockCounts, PollsEnd, PollsEndInTicks, PollsEndOrWait}
-use Rattle.promises.specs.LentPolls.{LentRunsOn, LentRunsHistory, LentBoundsHold, LentPollsEnd}
+use Rattle.promises.specs.LentPolls.{LentCallsAnswer, LentRunsOn, LentRunsHistory, LentBoundsHold, LentPollsEnd}
+use Rattle.promises.specs.Histories.{HistoryRuns, Books}
+use Rattle.promises.specs.Below.{AnswerFromAbove, RunFromAbove}
 
 -- Every sheet is answered: taken where it is whole, else turned away by its first fault (page Sheets), and
 -- the bytes of a record are its numbers (page SheetRecords).
@@ -69,7 +70,8 @@ pub record LentListsAnswered : Type 0 where
   pub turned-away : LentTurnedAway lent
   pub refused : RefusedLentHasFault lent
   pub by-value : ByValue
-  pub triples : TripleIsRow
+  pub triple : TripleIsRow
+  pub triples : TriplesInOrder
   pub in-c : CallersInC
 
 -- Every opening and every call on a bench is answered (page Calls), and one that is taken does what the rules
@@ -83,13 +85,14 @@ pub record BenchesAnswered : Type 0 where
   pub turned-away : CallTurnedAway
   pub taken : CallTaken
   pub refused : RefusedCallHasFault
-  pub unchanged : RefusedUnchanged
+  pub unchanged : RefusedChangesNothing
   pub numbers : RefusalNumbers
   pub gap : GapPermitted
   pub first-release : FirstReleasePermitted
   pub clock : ClockTo1000000000
   pub releases : ReleaseStarts
-  pub ticks : TickServes
+  pub ticks : TickServes tick
+  pub no-other-tick : NoOtherTick
   pub listed : EndedListed
   pub functions : CallsAnswered
 
@@ -147,10 +150,12 @@ pub record Demand2 : Type 0 where
   pub largest-total : LargestTotal
   pub floor-form : FloorForm
   pub least-solution : BoundsSolve
+  pub formulas : FormulasAnswered
   pub largest-plain : PlainIsLargest
   pub largest-carry : CarryIsLargest
   pub carry-in-short-windows : NoMoreThanCarry
   pub digits : InDecimal
+  pub words : WordsInBytes
   pub printed : TextInFront
   pub first-bytes : First1024
 
@@ -168,6 +173,9 @@ pub record Demand3 : Type 0 where
   pub lent-histories : LentRunsHistory
   pub lent-holds : LentBoundsHold
   pub lent-polls-end : LentPollsEnd
-  pub books : BooksBalance
-  pub below : RowsBelow
+  pub lent-calls : LentCallsAnswer
+  pub histories : HistoryRuns
+  pub books : Books
+  pub answer-from-above : AnswerFromAbove
+  pub run-from-above : RunFromAbove
   pub in-code : ReplayInTime

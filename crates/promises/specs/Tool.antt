@@ -27,6 +27,17 @@ pub data Digits : ℕ → List ℕ → Type 0 where
 abbrev pub InDecimal : Type 0
 InDecimal = (n : ℕ) → Digits n (decimal n)
 
+-- Words are printed as their letters' bytes.
+pub record WordsInBytes : Type 0 where
+  pub line-end : ascii "\n" ≡ 10 ∷ []
+  pub space : ascii " " ≡ 32 ∷ []
+  pub cores : ascii "cores " ≡ 99 ∷ 111 ∷ 114 ∷ 101 ∷ 115 ∷ 32 ∷ []
+  pub tick : ascii " tick " ≡ 32 ∷ 116 ∷ 105 ∷ 99 ∷ 107 ∷ 32 ∷ []
+  pub rows : ascii " rows " ≡ 32 ∷ 114 ∷ 111 ∷ 119 ∷ 115 ∷ 32 ∷ []
+  pub all-shown : ascii "all shown\n" ≡ 97 ∷ 108 ∷ 108 ∷ 32 ∷ 115 ∷ 104 ∷ 111 ∷ 119 ∷ 110 ∷ 10 ∷ []
+  pub not-shown : ascii "not shown " ≡ 110 ∷ 111 ∷ 116 ∷ 32 ∷ 115 ∷ 104 ∷ 111 ∷ 119 ∷ 110 ∷ 32 ∷ []
+  pub refused : ascii "refused " ≡ 114 ∷ 101 ∷ 102 ∷ 117 ∷ 115 ∷ 101 ∷ 100 ∷ 32 ∷ []
+
 -- First line: cores, tick length in µs, number of rows. Row lines: place, label, bound, D.
 abbrev pub firstText : (cores tick rows : ℕ) → List ℕ
 firstText cores tick rows =

@@ -9,6 +9,7 @@ use Rattle.quantities.specs.declared.Row.{Row}
 use Rattle.quantities.specs.Row.{noRow}
 use Rattle.quantities.specs.Paper.{paper}
 use Rattle.windows.specs.declared.Answer.the-variants.{Shown, NotShown}
+use Rattle.windows.specs.Window.{plain, carry, interference}
 use Rattle.windows.specs.Answer.{Judged, paperOf}
 use Rattle.promises.specs.Lists.{ListInRange}
 
@@ -138,3 +139,9 @@ abbrev pub BoundsSolve : Type 0
 BoundsSolve =
     (cores : ℕ) (rows : List Row) (j : Judged) → ListInRange cores rows → JudgedBy cores rows j
     → (k : ℕ) → k < length (j .bounds) → LeastSolution cores rows (j .bounds) k (boundAt (j .bounds) k)
+
+-- The functions for one row above answer these formulas, in every window.
+pub record FormulasAnswered : Type 0 where
+  pub without : (row : Row) (x : ℕ) → plain (row .c .0) (row .t .0) x ≡ withoutCarry row x
+  pub carrying : (row : Row) (r x : ℕ) → carry (row .c .0) (row .t .0) r x ≡ withCarry row r x
+  pub limited : (own x w : ℕ) → interference own x w ≡ interferes own x w
