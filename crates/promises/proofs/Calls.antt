@@ -30,7 +30,7 @@ use Rattle.bench.proofs.Rules.{release-checks, tick-checks, call-turned-away as
 use Rattle.bench.proofs.Rules.{call-taken as taken-by-checks, refused-call-has-fault as refused-by-checks}
 use Rattle.promises.specs.Calls.{rowsOn, rowOn, stateOn, OnBoard}
 use Rattle.promises.specs.Calls.{RecordBroken, released-later, Gives29, tooEarly, callOrder}
-use Rattle.promises.specs.Calls.{RefusedChangesNothing, CallTurnedAway, CallTaken, RefusedCallHasFault}
+use Rattle.promises.specs.Calls.{Refuses, RefusedChangesNothing, CallTurnedAway, CallTaken, RefusedCallHasFault}
 use Rattle.promises.specs.Calls.{Ready, GapPermitted, FirstReleasePermitted}
 use Rattle.promises.proofs.Broken.{broken-breaks, breaks-broken, unbroken}
 
@@ -96,10 +96,13 @@ first-of-call b (releases place demand) =
     (early-soon b place whole (on-board b place inside) (stateOn b place .last) refl))))
 first-of-call b ticks = rw (tick-checks b) refl
 
+refuses : {b : Bench} {number place : ℕ} {step : Step} → TurnedAway b number place step → Refuses b number place step
+refuses t = record { on-paper = t .on-paper; none-end = t .none-end; same-bench = t .same-bench }
+
 pub call-turned-away : CallTurnedAway
 call-turned-away b call one first =
     let found = sym (first-of-call b call) ∙ first-found (callOrder b call) one first in
-    by-checks b call one (first-failing (callChecks b call) one found)
+    refuses (by-checks b call one (first-failing (callChecks b call) one found))
 
 pub call-taken : CallTaken
 call-taken b call passed =
@@ -142,7 +145,7 @@ not-29 b ticks one whole found =
     first-has (λ other. other .number ≡ 29 → ⊥) one _ ((λ e. omega arith), tt)
     (sym (first-passes (check 29 0 (broken b)) _ whole) ∙ found)
 
-pub is-29 : (b : Bench) (call : Call) → RecordBroken b → TurnedAway b 29 0 (doCall b call)
+pub is-29 : (b : Bench) (call : Call) → RecordBroken b → Refuses b 29 0 (doCall b call)
 unfolding firstFailing
 is-29 b (releases place demand) broke =
     call-turned-away b (releases place demand) (check 29 0 (broken b))
@@ -196,7 +199,7 @@ module _ (b : Bench) (place demand : ℕ) (ready : Ready b place demand) where
       call-taken b (releases place demand)
       (unbroken b (ready .whole), (place-passes, (demand-passes, (in-gap, (over, tt)))))
 
-  ready-22 : early ≡ true → TurnedAway b 22 place (release b place demand)
+  ready-22 : early ≡ true → Refuses b 22 place (release b place demand)
   ready-22 too-early =
       call-turned-away b (releases place demand) (check 22 place early)
       (record {
@@ -212,7 +215,7 @@ module _ (b : Bench) (place demand : ℕ) (ready : Ready b place demand) where
       })
 
 -- a call that is turned away is not taken
-turned-not-taken : (b : Bench) (number place : ℕ) (step : Step) → 0 < number → TurnedAway b number place step
+turned-not-taken : (b : Bench) (number place : ℕ) (step : Step) → 0 < number → Refuses b number place step
     → step .outcome ≡ Taken → ⊥
 unfolding paperOf
 turned-not-taken b number place step h turned e =
@@ -222,7 +225,7 @@ pub gap-permitted : GapPermitted
 gap-permitted b place demand at ready q =
     (((λ e. let h = there e in omega arith), (λ h. late-enough (omega arith))), turned)
   where
-    turned : b .now .0 < at .0 + rowOn b place .t .0 → TurnedAway b 22 place (release b place demand)
+    turned : b .now .0 < at .0 + rowOn b place .t .0 → Refuses b 22 place (release b place demand)
     turned h = ready-22 b place demand ready (rw q (lt-ltb (b .now .0) (at .0 + rowOn b place .t .0) h))
 
     late-enough : at .0 + rowOn b place .t .0 ≤ b .now .0 → release b place demand .outcome ≡ Taken
@@ -240,11 +243,4 @@ pub first-release-permitted : FirstReleasePermitted
 first-release-permitted b place demand ready q = ready-taken b place demand ready (rw q refl)
 
 pub refused-changes-nothing : RefusedChangesNothing
-refused-changes-nothing =
-    record {
-      turned-away = λ b number place step. (
-        λ t. record { on-paper = t .on-paper; none-end = t .none-end; same-bench = t .same-bench },
-        λ r. record { on-paper = r .on-paper; none-end = r .none-end; same-bench = r .same-bench },
-      );
-      unchanged = refused-unchanged;
-    }
+refused-changes-nothing = refused-unchanged

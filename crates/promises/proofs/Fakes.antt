@@ -24,7 +24,7 @@ use Rattle.lines.specs.Words.{ascii}
 use Rattle.lines.specs.Decimal.{digitsIn, decimal}
 use Rattle.lines.specs.Lines.{firstLine, rowLine, rowLines, shownLine}
 use Rattle.text.specs.Text.{judgedText, boundLines}
-use Rattle.text.specs.Cases.{sheet-of-document}
+use Rattle.promises.specs.Tool.{sheetOfDocument}
 use Rattle.promises.specs.Lists.{ListInRange}
 use Rattle.promises.specs.Sheets.{WholeWith}
 use Rattle.promises.specs.Lent.{Lending}
@@ -45,7 +45,7 @@ use Rattle.bench.specs.Fakes.{once, inventing}
 use Rattle.bench.proofs.Fakes.{fake-ticks-caught as by-rule}
 use Rattle.promises.proofs.Moves.{keeps-the-rule}
 use Rattle.promises.proofs.Windows.{judged-right, one-judgement-by-rules}
-use Rattle.promises.proofs.Tool.{one-text-printed}
+use Rattle.promises.proofs.Tool.{one-text-printed, output-of-document}
 
 -- one core and two rows of document 01, of which the second has the bound 3 and the cost 2
 abbrev two : List Row
@@ -75,7 +75,7 @@ unfolding rowChecks rowsChecks listChecks firstFailing faultFrom listFault plain
     most passes firstOf least window boundsBelow verdict judgedAfter judged
 two-judged = refl
 
--- two sheets: one with the row of priority 10 before that of priority 2, and that of document 01
+-- a sheet with the row of priority 10 before that of priority 2
 abbrev rowWith : ℕ → List ℕ
 rowWith priority = 2 ∷ 0 ∷ 7 ∷ 0 ∷ priority ∷ replicate 12 0
 
@@ -102,17 +102,10 @@ whole-falling =
       is-end = refl;
     }
 
-abbrev of-document : List ℕ
-of-document =
-    (1 ∷ 2 ∷ 0 ∷ 100 ∷ [])
-    ++ (2 ∷ 0 ∷ 101 ∷ 0 ∷ 1 ∷ 0 ∷ 0 ∷ 0 ∷ 200 ∷ 0 ∷ 0 ∷ 1 ∷ 244 ∷ 0 ∷ 0 ∷ 1 ∷ 244 ∷ [])
-    ++ (2 ∷ 0 ∷ 110 ∷ 0 ∷ 10 ∷ 0 ∷ 0 ∷ 0 ∷ 200 ∷ 0 ∷ 0 ∷ 1 ∷ 144 ∷ 0 ∷ 0 ∷ 3 ∷ 232 ∷ [])
-    ++ (2 ∷ 0 ∷ 102 ∷ 0 ∷ 2 ∷ 0 ∷ 0 ∷ 1 ∷ 44 ∷ 0 ∷ 0 ∷ 3 ∷ 32 ∷ 0 ∷ 0 ∷ 3 ∷ 32 ∷ [])
-    ++ (3 ∷ 3 ∷ [])
-
--- what a tool prints for it that judges the rows as the records stand: bound 2 for the row of priority 2
+-- what a tool prints for the sheet of document 01 that judges the rows as the records stand: bound 2 for the
+-- row of priority 2
 crossed : (order : List Row → List Row) → AsTheRecordsStand order
-    → judgesInOrder order of-document
+    → judgesInOrder order sheetOfDocument
     ≡ ascii "cores 2 tick 100 rows 3\n1 101 2 5\n2 102 2 8\n3 110 5 4\nall shown\n"
 unfolding judgedText boundLines firstLine rowLine rowLines shownLine decimal digitsIn readOf readFrom newReading
     noSheet boardSheet recordOn recordLength kindOf isEnd wholeRecord rowFields field numberAfter recordChecks misplaced
@@ -171,8 +164,8 @@ module _ (read : Reader) (judge : Judge) (lend : Lending) (tool : Tool) where
   joins-wrongly : (order : List Row → List Row) → AsTheRecordsStand order
       → Demand2For read judge lend (judgesInOrder order) → ⊥
   joins-wrongly order stands demand =
-      let text = one-text-printed (judgesInOrder order) (demand .whole-way) of-document in
-      let same = sym (crossed order stands) ∙ text ∙ sheet-of-document in
+      let text = one-text-printed (judgesInOrder order) (demand .whole-way) sheetOfDocument in
+      let same = sym (crossed order stands) ∙ text ∙ output-of-document in
       let z : _≡_ {A = ℕ} 50 51 = ap (λ (xs : List ℕ). getD xs 40 0) same in
       omega arith
 

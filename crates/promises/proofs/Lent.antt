@@ -1,19 +1,25 @@
 -- The lent analysis answers, and leaves the lent list, as specs/Lent.antt says.
-use Prim.Native.Nat.{ℕ, zero, suc, _-_}
+use Prim.Native.Nat.{ℕ, zero, suc, _-_, _≤_}
 use native.Mathlib.Omega.{arith}
 use mathlib.Core.Path.{_≡_, refl, sym, ap, _∙_}
+use mathlib.Core.Option.{Option, none, some}
 use mathlib.Core.List.{List, _++_}
 use lib.ListN.{length, drop, replicate, length-map, length-append, length-drop, length-replicate}
 use lib.Seq.{take-append-seam, drop-append-seam}
 use Rattle.laws.specs.Each.{Each}
+use Rattle.quantities.specs.declared.Row.{Row}
+use Rattle.quantities.specs.declared.Fault.{Fault}
 use Rattle.quantities.specs.declared.Ticks.{Ticks}
 use Rattle.quantities.specs.Limits.{rowCapacity}
-use Rattle.quantities.specs.Checks.{listChecks, roomChecks, lentFault}
+use Rattle.quantities.specs.Checks.{listChecks, roomChecks, listFault, lentFault}
 use Rattle.quantities.proofs.Paper.{fault-first}
 use Rattle.quantities.proofs.Sound.{sound-list-means}
 use Rattle.windows.specs.Answer.{Judged, judged, judgedInto, written, paperOf}
 use Rattle.windows.proofs.Into.{into-refused, into-room, refused-fault, few-bounds}
-use Rattle.analysis.specs.Analysis.{analysisOf}
+use Rattle.analysis.specs.Analysis.{numbers, inArray, analysisOf}
+use Rattle.windows.proofs.Judgement.{judged-faulty}
+use Rattle.lentrows.specs.Lent.{toldOf}
+use Rattle.lentrows.proofs.Lent.{bounds-fit}
 use Rattle.lines.proofs.Lines.{numbers-in-array}
 use Rattle.promises.specs.Lists.{faultAt}
 use Rattle.promises.specs.Lent.{
@@ -23,7 +29,9 @@ use Rattle.promises.specs.Lent.{
   LentTurnedAway,
   RefusedLentHasFault,
   LentJudged,
+  InEntries,
   ByValue,
+  ToldFor,
   TripleIsRow,
   TriplesInOrder,
   CallersInC,
@@ -90,20 +98,37 @@ each-blank : (n : ℕ) → Each (λ (entry : ℕ). entry ≡ 0) (replicate n 0)
 each-blank zero = tt
 each-blank (suc n) = (refl, each-blank n)
 
+in-entries : (bounds : List ℕ) → length bounds ≤ 32 → InEntries bounds (numbers (inArray bounds))
+in-entries bounds few =
+    let blank : List ℕ = replicate (rowCapacity - length bounds) 0 in
+    rw (numbers-in-array bounds)
+    (record {
+      first = take-append-seam bounds blank;
+      blank = rw (drop-append-seam bounds blank) (each-blank (rowCapacity - length bounds));
+      many =
+          length-append bounds blank
+          ∙ omega (arith, few, length-replicate {A = ℕ} (rowCapacity - length bounds) 0);
+    })
+
+-- no list has more bounds than a table has rows
+few-judged : (cores : ℕ) (rows : List Row) → length (judged cores rows .bounds) ≤ 32
+few-judged cores rows = by-fault (listFault cores rows) refl
+  where
+    by-fault : (found : Option Fault) → listFault cores rows ≡ found → length (judged cores rows .bounds) ≤ 32
+    by-fault (some fault) q = rw (judged-faulty cores rows fault q) (omega arith)
+    by-fault none q =
+        let sound = sound-list-means cores rows .0 q in
+        omega (arith, few-bounds cores rows sound, sound .few-rows)
+
 pub by-value : ByValue
 unfolding analysisOf
-by-value j few =
-    let blank : List ℕ = replicate (rowCapacity - length (j .bounds)) 0 in (
-      refl,
-      rw (numbers-in-array (j .bounds))
-          (record {
-            first = take-append-seam (j .bounds) blank;
-            blank = rw (drop-append-seam (j .bounds) blank) (each-blank (rowCapacity - length (j .bounds)));
-            many =
-                length-append (j .bounds) blank
-                ∙ omega (arith, length-replicate {A = ℕ} (rowCapacity - length (j .bounds)) 0);
-          }),
-    )
+by-value cores rows = (refl, in-entries (judged cores rows .bounds) (few-judged cores rows))
+
+pub told-for : ToldFor
+unfolding toldOf
+told-for cores entries rows =
+    let j = judgedInto cores entries rows in
+    record { answer = refl; bounds = in-entries (j .bounds) (bounds-fit cores entries rows .0); shown = refl }
 
 pub triple-is-row : TripleIsRow
 triple-is-row c d t = (refl, refl, refl)

@@ -19,8 +19,9 @@ use Rattle.running.proofs.Running.{bounds-hold}
 use Rattle.lentbench.specs.Lent.{LentAnswer, toTick, LentRun, over, released, ticked}
 use Rattle.lentbench.specs.Lent.{tickAnswerOf, ticksFor, answerTo, answersTo}
 use Rattle.lentbench.proofs.Lent.{lent-run}
-use Rattle.promises.specs.Polls.{boundFor, stateOf, ticksAmong, ListsNone, EndsWithin, PollStarts}
-use Rattle.promises.specs.LentPolls.{pollsIn, outcomeIn, ticksHeard, LentRunsOn, LentRunsHistory}
+use Rattle.promises.specs.Calls.{stateOn}
+use Rattle.promises.specs.Polls.{boundFor, ticksAmong, ListsNone, EndsWithin, PollStarts}
+use Rattle.promises.specs.LentPolls.{pollsIn, outcomeIn, ticksHeard, answersHeard, LentRunsOn, LentRunHears, LentRunsHistory}
 use Rattle.promises.specs.LentPolls.{LentCallsAnswer, ReleasedWithin, LentBoundsHold, HeardWithin, LentPollsEnd}
 use Rattle.promises.proofs.Polls.{polls-end-in-ticks}
 
@@ -62,12 +63,26 @@ lent-runs-history b calls end heard =
     (lent-run, λ run. rw (run .ends, run .hears) (lent-history calls b))
 
 -- a last release that came less than the bound ago
-less-ago : (b : Bench) (place bound : ℕ) (last : Last) → stateOf b place .last ≡ last
+less-ago : (b : Bench) (place bound : ℕ) (last : Last) → stateOn b place .last ≡ last
     → LessAgo (b .now .0) bound last → ReleasedWithin bound b place
 less-ago b place bound Never is ago = absurd ago
 less-ago b place bound (At at) is ago = record { release = at; last-release = is; less-ago = ago }
 
 -- Demand 3.
+same-heard : (b : Bench) (calls : List Call) → answersHeard b calls ≡ answersTo calls (steps b calls)
+unfolding steps answersTo
+same-heard b [] = refl
+same-heard b (releases place demand ∷ calls) = rw (same-heard (release b place demand .bench) calls) refl
+same-heard b (ticks ∷ calls) = rw (same-heard (tick b .bench) calls) refl
+
+pub lent-run-hears : LentRunHears
+lent-run-hears b calls end heard = (
+  λ run.
+      let history = lent-runs-history b calls end heard .0 run in
+      (history .ends, history .hears ∙ sym (same-heard b calls)),
+  λ is. lent-runs-history b calls end heard .1 (record { ends = is .0; hears = is .1 ∙ same-heard b calls }),
+)
+
 pub lent-bounds-hold : LentBoundsHold
 lent-bounds-hold cores table start is calls end heard run place first within =
     let bound = boundFor cores table place in

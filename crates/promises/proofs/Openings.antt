@@ -18,7 +18,6 @@ use Rattle.bench.specs.Refusal.{refusalPaper, paperOf, firstRefusal, releaseTes
 use Rattle.bench.specs.Ended.{noFinish, finishesOf}
 use Rattle.bench.specs.Step.{emptyBench, noBench, openingOf, release, taken, tick, releasedOf, tickedOf}
 use Rattle.bench.specs.History.{Call, ticks, doCall, after}
-use Rattle.bench.specs.Rules.{TurnedAway}
 use Rattle.bench.proofs.Record.{whole-unbroken}
 use Rattle.bench.proofs.Kept.{opened-empty, kept-opened, kept-after}
 use Rattle.bench.proofs.Steps.{release-taken, release-refused, tick-taken, tick-refused}
@@ -26,9 +25,9 @@ use Rattle.bench.proofs.Open.{no-bench-broken}
 use Rattle.bench.proofs.Rules.{faulty-table-not-opened, sound-table-opened, opened-holds as kept-opening}
 use Rattle.replay.proofs.Turns.{polls-few}
 use Rattle.promises.specs.Lists.{faultAt}
-use Rattle.promises.specs.Calls.{RefusalNumbers}
+use Rattle.promises.specs.Calls.{Refuses, RefusalNumbers}
 use Rattle.promises.specs.Calls.{OpeningRefused, OpeningTaken, OpenedHolds, ClockTo1000000000}
-use Rattle.promises.specs.Calls.{Lists, EndedListed, CallsAnswered}
+use Rattle.promises.specs.Calls.{ListsPolls, EndedListed, CallsAnswered}
 use Rattle.promises.proofs.Lists.{list-order, fault-of-first, sound-in-range, in-range-sound}
 use Rattle.promises.proofs.Broken.{broken-breaks}
 use Rattle.promises.proofs.Calls.{call-turned-away, call-taken, is-29}
@@ -48,7 +47,7 @@ refusal-numbers =
     }
 
 -- each call on what stands for a bench gives 29
-no-bench-29 : (call : Call) → TurnedAway noBench 29 0 (doCall noBench call)
+no-bench-29 : (call : Call) → Refuses noBench 29 0 (doCall noBench call)
 no-bench-29 call = is-29 noBench call (broken-breaks noBench no-bench-broken)
 
 pub opening-refused : OpeningRefused
@@ -98,7 +97,7 @@ clock-to-1000000000 cores table start o calls =
     )
 
 -- The list of polls in the answer of a tick.
-polls-listed : (polls : List Finish) → length polls ≤ 32 → Lists polls (finishesOf polls)
+polls-listed : (polls : List Finish) → length polls ≤ 32 → ListsPolls polls (finishesOf polls)
 unfolding finishesOf
 polls-listed polls few =
     let blanks = replicate (32 - length polls) noFinish in

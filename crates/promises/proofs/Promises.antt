@@ -5,12 +5,12 @@ use Rattle.running.proofs.Replayed.{replay-in-time}
 use Rattle.promises.specs.Promises.{Demand1, Demand2, Demand3}
 use Rattle.promises.proofs.Sheets.{sheet-either, sheet-taken, taken-sheet-is-whole, sheet-turned-away}
 use Rattle.promises.proofs.Sheets.{refused-sheet-has-fault, no-byte-at-the-end, whole-length, sheets-read, one-reading}
-use Rattle.promises.proofs.SheetRecords.{records-come-back, priorities-to-999, row-records-to-32, thirty-two-taken}
+use Rattle.promises.proofs.SheetRecords.{records-come-back, parts-told, priorities-to-999, row-records-to-32, thirty-two-taken}
 use Rattle.promises.proofs.Lists.{faulty-list-turned-away, refused-list-has-fault, taken-exactly}
 use Rattle.promises.proofs.Lists.{cores-to-16, rows-to-32, gaps-to-1000000}
 use Rattle.promises.proofs.Tables.{named-limits, table-made, table-checked}
 use Rattle.promises.proofs.Lent.{lent-answered, lent-turned-away, refused-lent-has-fault, lent-judged}
-use Rattle.promises.proofs.Lent.{of-lengths, by-value, triple-is-row, triples-in-order, callers-in-c}
+use Rattle.promises.proofs.Lent.{of-lengths, by-value, told-for, triple-is-row, triples-in-order, callers-in-c}
 use Rattle.promises.proofs.Broken.{broken-exactly}
 use Rattle.promises.proofs.Calls.{gives-29, call-turned-away, call-taken, refused-call-has-fault}
 use Rattle.promises.proofs.Calls.{refused-changes-nothing, gap-permitted, first-release-permitted}
@@ -23,9 +23,11 @@ use Rattle.promises.proofs.Windows.{judged-right, one-judgement-by-rule
 use Rattle.promises.proofs.Solution.{bounds-solve}
 use Rattle.promises.proofs.Patterns.{plain-is-largest, carry-is-largest, no-more-than-carry}
 use Rattle.promises.proofs.Tool.{goes-the-whole-way, one-text-printed, in-decimal, words-in-bytes, text-at-the-front, first-1024}
+use Rattle.promises.proofs.Tool.{output-of-document}
 use Rattle.promises.proofs.Clock.{clock-counts}
 use Rattle.promises.proofs.Polls.{polls-end, polls-end-in-ticks, polls-end-or-wait}
-use Rattle.promises.proofs.LentPolls.{lent-calls-answer, lent-runs-on, lent-runs-history, lent-bounds-hold, lent-polls-end}
+use Rattle.promises.proofs.LentPolls.{lent-calls-answer, lent-runs-on, lent-run-hears, lent-runs-history}
+use Rattle.promises.proofs.LentPolls.{lent-bounds-hold, lent-polls-end}
 use Rattle.promises.proofs.Histories.{history-runs, books}
 use Rattle.promises.proofs.Below.{answer-from-above, run-from-above}
 
@@ -43,6 +45,7 @@ demand-1 =
             lengths = whole-length;
             readings = read-to-means;
             records = records-come-back;
+            parts = parts-told;
             priorities = priorities-to-999;
             thirty-third-row = row-records-to-32;
             thirty-two-rows = thirty-two-taken;
@@ -66,6 +69,7 @@ demand-1 =
             turned-away = lent-turned-away;
             refused = refused-lent-has-fault;
             by-value = by-value;
+            told = told-for;
             triple = triple-is-row;
             triples = triples-in-order;
             in-c = callers-in-c;
@@ -128,6 +132,7 @@ demand-2 =
       digits = in-decimal;
       words = words-in-bytes;
       printed = text-at-the-front;
+      document = output-of-document;
       first-bytes = first-1024;
     }
 
@@ -140,6 +145,7 @@ demand-3 =
       or-wait = polls-end-or-wait;
       clock = clock-counts;
       lent-runs = lent-runs-on;
+      lent-hears = lent-run-hears;
       lent-histories = lent-runs-history;
       lent-holds = lent-bounds-hold;
       lent-polls-end = lent-polls-end;

@@ -12,7 +12,7 @@ use Rattle.laws.proofs.Tests.{and-true}
 use Rattle.sheet.specs.Reader.{readOf}
 use Rattle.quantities.specs.Checks.{Check, check}
 use Rattle.records.specs.Bytes.{numberAfter, field}
-use Rattle.records.specs.Records.{rowFields, recordOn}
+use Rattle.records.specs.Records.{recordLength, rowFields, recordOn, kindOf, isEnd}
 use Rattle.records.specs.declared.Record.the-variants.{Board, Row}
 use Rattle.records.proofs.Parts.{on-board, on-row, on-end}
 use Rattle.promises.specs.Sheets.{
@@ -39,6 +39,7 @@ use Rattle.promises.specs.SheetRecords.{
   Bytes,
   RowFits,
   RecordsComeBack,
+  PartsTold,
   oneRow,
   PrioritiesTo999,
   RowRecordsTo32,
@@ -227,3 +228,22 @@ thirty-two-taken =
         is-end = refl;
       },
     )
+
+pub parts-told : PartsTold
+unfolding recordOn recordLength kindOf isEnd
+parts-told =
+    record {
+      no-byte = refl;
+      unknown = λ kind rest one two three.
+          rw (ne-eqb kind 1 one, ne-eqb kind 2 two, ne-eqb kind 3 three) refl;
+      cut-board = λ rest short. rw (lt-ltb (suc (length rest)) 4 (omega (arith, short))) refl;
+      cut-row = λ rest short. rw (lt-ltb (suc (length rest)) 17 (omega (arith, short))) refl;
+      cut-end = refl;
+      sizes-of-cut = (refl, refl, refl);
+      size-of-board = λ cores tick. refl;
+      size-of-row = λ fields. refl;
+      size-of-end = λ count. refl;
+      no-size = (refl, refl);
+      the-end = λ count. refl;
+      no-end = λ fields cores tick kind. (refl, refl, refl, refl, refl);
+    }

@@ -1,5 +1,5 @@
 -- The order sheet in bytes holds of the reader: taken or turned away, and what is read.
-use Prim.Native.Nat.{ℕ, zero, suc, _+_, _≤_, _<_}
+use Prim.Native.Nat.{ℕ, zero, suc, _+_, _-_, _≤_, _<_}
 use native.Mathlib.Omega.{arith}
 use native.Mathlib.Decide.{ℕ-discrete, decLe}
 use native.Mathlib.Nat.{mul-le-mul-right}
@@ -9,8 +9,8 @@ use mathlib.Core.Bool.{Bool, true, false, _||_}
 use mathlib.Core.List.{List, [], _∷_}
 use mathlib.Core.Option.{Option, none, some}
 use lib.Dec.{eqb, leb, ltb}
-use lib.ListN.{length, getD, take, drop, length-drop, length-set}
-use lib.Seq.{ext-getD}
+use lib.ListN.{length, getD, take, drop, replicate, length-drop, length-set, take-append-drop}
+use lib.Seq.{ext-getD, drop-append-seam}
 use borrow.Author.Tests.{ltb-false, eqb-true, not-false, le-leb, ne-eqb}
 use Rattle.laws.specs.Each.{Each}
 use Rattle.laws.specs.Permuted.{Permuted, both}
@@ -27,6 +27,7 @@ use Rattle.records.proofs.Parts.{on-end}
 use Rattle.sheet.specs.Entries.{noEntry, boardSheet, entriesOf, tableWith, tableOf, sheetOf, Rising}
 use Rattle.sheet.specs.Reader.{noSheet, newReading, refused, whole, readOf, paperOf}
 use Rattle.sheet.specs.declared.Entry.{Entry}
+use Rattle.sheet.specs.declared.Sheet.{Sheet}
 use Rattle.sheet.specs.declared.Outcome.{Outcome}
 use Rattle.sheet.proofs.Checks.{sound-not-refused}
 use Rattle.sheet.proofs.Faults.{verdict-none, verdict-first, same-refusal}
@@ -71,7 +72,7 @@ use Rattle.promises.proofs.SheetsRows.{Past, readingOf, past, past-coun
 away : (number place : ℕ) (outcome : Outcome) → refused number place ≡ outcome → TurnedAway number place outcome
 unfolding refused noSheet boardSheet paperOf entriesOf tableOf tableWith emptyTable rowsOf
 away number place outcome e =
-    rw (← e) (record { answers = refl; on-paper = refl; no-entries = refl; no-rows = refl })
+    rw (← e) (record { answers = refl; on-paper = refl; no-sheet = refl; no-entries = refl; no-rows = refl })
 
 pub sheet-turned-away : SheetTurnedAway
 sheet-turned-away sheet one (at-the-board first) =
@@ -260,6 +261,10 @@ entries-read sheet n passed before =
       counted = rw same count;
       count = count;
       listed = ap (λ (m : ℕ). take m (sheetOf (coresOf sheet) tick entries .entries)) count;
+      blank =
+          ap (λ (m : ℕ). drop m (sheetOf (coresOf sheet) tick entries .entries)) (sym count)
+          ∙ drop-append-seam entries (replicate (32 - length entries) noEntry)
+          ∙ ap (λ (m : ℕ). replicate (32 - m) noEntry) count;
       table = rw same rows;
       table-count = size .count ∙ count;
       table-rows = rw same (first ∙ rows);
@@ -315,9 +320,17 @@ one-reading sheet n a b read other =
     let together : Permuted (entriesOf a) (entriesOf b) = both (permuted-back (read .each-once)) others in
     let up = index-rising (entriesOf a) (read .rising) in
     let rises = index-rising (entriesOf b) (other .rising) in
-    let same = rising-permuted (entriesOf a) (entriesOf b) up rises together in (
-      same,
-      read .table ∙ rw same (sym (other .table)),
-      read .cores ∙ sym (other .cores),
-      read .tick ∙ sym (other .tick),
-    )
+    let same = rising-permuted (entriesOf a) (entriesOf b) up rises together in
+    let first : take n (a .entries) ≡ take n (b .entries) = sym (read .listed) ∙ same ∙ other .listed in
+    let later : drop n (a .entries) ≡ drop n (b .entries) = read .blank ∙ sym (other .blank) in
+    let entries : a .entries ≡ b .entries =
+    sym (take-append-drop n (a .entries)) ∙ rw (first, later) (take-append-drop n (b .entries)) in
+    one-sheet (a .cores) (b .cores) (a .tick .0) (b .tick .0) (a .count) (b .count) (a .entries) (b .entries)
+    (read .cores ∙ sym (other .cores)) (read .tick ∙ sym (other .tick)) (read .count ∙ sym (other .count)) entries
+  where
+    one-sheet : (cores cores′ tick tick′ count count′ : ℕ) (entries entries′ : List Entry)
+        → cores ≡ cores′ → tick ≡ tick′ → count ≡ count′ → entries ≡ entries′
+        → _≡_ {A = Sheet}
+        (record { cores = cores; tick = record { 0 = tick }; count = count; entries = entries })
+        (record { cores = cores′; tick = record { 0 = tick′ }; count = count′; entries = entries′ })
+    one-sheet cores cores′ tick tick′ count count′ entries entries′ c t n e = rw (c, t, n, e) refl

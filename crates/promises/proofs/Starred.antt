@@ -13,13 +13,13 @@ use Rattle.bench.specs.Refusal.{firstRefusal, tooSoon, releaseTests, tickTests}
 use Rattle.bench.specs.Serving.{unit, units, less, worked, ends, since, finishOf, finished}
 use Rattle.bench.specs.Step.{emptyBench, openedAfter, opened, unless, started, release, served, moved, taken, tick}
 use Rattle.bench.specs.History.{after}
-use Rattle.promises.specs.Starred.{claims}
+use Rattle.promises.specs.Starred.{StarredHold}
 
 infixr 4 _&_
 _&_ : {A B : Type 0} → A → B → A × B
 a & b = (a, b)
 
-pub starred : Each (λ claim. claim) claims
+pub starred : StarredHold
 unfolding plain carry limit interference most passes firstOf least window boundsBelow verdict judgedAfter judged judgedInto
     written paperOf rowsOf rowChecks rowsChecks listChecks roomChecks firstFailing faultFrom listFault lentFault lastBroken
     rowBroken rowsBroken isFault broken firstRefusal tooSoon releaseTests tickTests unit units less worked ends since finishOf

@@ -1,5 +1,6 @@
 -- A table is made and checked as specs/Tables.antt says.
 use mathlib.Core.Path.{refl, ap, _∙_}
+use borrow.Author.Tests.{le-ltb}
 use Rattle.quantities.specs.Table.{rowsOf, emptyTable, withRow}
 use Rattle.quantities.specs.Checks.{listChecks, listFault, checkedOf}
 use Rattle.quantities.proofs.Rows.{length-rows, rows-kept, with-row-full, with-row-rows}
@@ -11,7 +12,7 @@ pub named-limits : NamedLimits
 named-limits = record { rows = refl; cores = refl; gap = refl }
 
 pub table-made : TableMade
-unfolding rowsOf emptyTable
+unfolding rowsOf emptyTable withRow
 table-made =
     record {
       counts = length-rows;
@@ -19,6 +20,7 @@ table-made =
       empty = refl;
       one-more = with-row-rows;
       full = λ table row h. length-rows (withRow table row) ∙ with-row-full table row h;
+      full-keeps = λ table row h. rw (le-ltb (table .count) 32 h) refl;
     }
 
 pub table-checked : TableChecked

@@ -7,6 +7,7 @@ use mathlib.Core.Path.{_≡_, refl, sym, ap, subst, _∙_}
 use mathlib.Core.Logic.{⊎-elim}
 use mathlib.Core.List.{List, _++_, append-assoc}
 use mathlib.Core.Option.{Option, none, some}
+use borrow.Author.Tests.{le-ltb}
 use lib.ListN.{length, getD, length-map, length-take}
 use lib.Seq.{getD-take}
 use Rattle.quantities.specs.declared.Row.{Row}
@@ -29,6 +30,8 @@ use Rattle.lines.specs.Lines.{firstLine, rowLine, rowLines, shownLine, notShown
 use Rattle.lines.proofs.Decimal.{decimal-one, decimal-more}
 use Rattle.text.specs.Text.{boundLines, labelAt, judgedText, sheetText, textOf}
 use Rattle.text.proofs.Text.{text-unread, text-read, text-first-bytes}
+use Rattle.text.specs.Cases.{sheet-of-document}
+use Rattle.text.specs.Printed.{Printed, countIn}
 use Rattle.text.proofs.Printed.{text-in-front, nothing-written}
 use Rattle.promises.specs.Lists.{listOrder, ListInRange}
 use Rattle.promises.specs.Windows.{JudgedBy, EveryRowShown, FirstRowNotShown}
@@ -51,6 +54,7 @@ use Rattle.promises.specs.Tool.{
   WholeWay,
   GoesTheWholeWay,
   OneText,
+  OutputOfDocument,
   TextInFront,
   First1024,
 }
@@ -265,13 +269,24 @@ one-text-printed tool goes sheet =
   where
     same : (n : ℕ) → WholeWay sheet n (tool sheet) → WholeWay sheet n (textOf sheet) → tool sheet ≡ textOf sheet
     same n a b =
-        let entries = one-reading sheet n (a .found) (b .found) (a .reads) (b .reads) .0 in
+        let entries = ap entriesOf (one-reading sheet n (a .found) (b .found) (a .reads) (b .reads)) in
         one-text (coresOf sheet) (tickOf sheet) (entriesOf (b .found)) (tool sheet) (textOf sheet)
         (rw entries at (a .prints)) (b .prints)
+
+-- a buffer with room enough has as many bytes of text as the text is long
+text-counted : (sheet buffer after : List ℕ) (count : ℕ) → 2856 ≤ length buffer → Printed sheet buffer after count
+    → count ≡ length (textOf sheet)
+unfolding countIn
+text-counted sheet buffer after count room printed =
+    rw (le-ltb (length buffer) 2856 room, countIn) at (printed .counts)
+
+pub output-of-document : OutputOfDocument
+output-of-document = sheet-of-document
 
 pub text-at-the-front : TextInFront
 text-at-the-front sheet buffer after count printed = (
   λ room. text-in-front sheet buffer after count room printed,
+  λ room. (text-counted sheet buffer after count room printed, printed .enough room),
   λ short. nothing-written sheet buffer after count short printed,
 )
 

@@ -27,7 +27,7 @@ use Rattle.bench.proofs.Steps.{release-taken, release-refused, tick-taken, tick
 use Rattle.bench.proofs.Balance.{started-here, started-elsewhere}
 use Rattle.bench.proofs.TickRule.{gets-one, has-got, taken-rule}
 use Rattle.bench.proofs.Kept.{Kept}
-use Rattle.promises.specs.Polls.{ListsNone, Lists}
+use Rattle.promises.specs.Polls.{ListsNone, ListsPoll}
 
 -- The row at a place has an unfinished poll that was released at an instant.
 pub record Waits (place released : ℕ) (b : Bench) : Type 0 where
@@ -38,7 +38,7 @@ pub record Waits (place released : ℕ) (b : Bench) : Type 0 where
 -- A step lists this poll, with finish instant minus release instant.
 pub record EndsNow (place released : ℕ) (step : Step) : Type 0 where
   pub response : ℕ
-  pub lists : Lists place response (step .finishes)
+  pub lists : ListsPoll place response (step .finishes)
   pub finish-minus-release : released + response ≡ step .bench .now .0
 
 -- A step leaves it unfinished and does not list it.

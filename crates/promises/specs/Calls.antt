@@ -31,7 +31,6 @@ use Rattle.bench.specs.Refusal.{refusalPaper, paperOf, firstRefusal, releaseTes
 use Rattle.bench.specs.Ended.{finishesOf}
 use Rattle.bench.specs.Step.{Step, noBench, opened, openingOf, release, tick, releasedOf, tickedOf}
 use Rattle.bench.specs.History.{Call, releases, ticks, doCall, after}
-use Rattle.bench.specs.Rules.{TurnedAway}
 use Rattle.promises.specs.Lists.{listOrder, faultAt, ListInRange}
 
 -- A row's state before its first release: never released, no demand, nothing that remains.
@@ -53,7 +52,7 @@ pub record OnBoard (b : Bench) (place : ℕ) : Type 0 where
   pub first : 1 ≤ place
   pub last : place ≤ length (rowsOn b)
 
--- The numbers of a refusal: 20 to 24 and 29, at the place given, and 24 and 29 at place 0.
+-- The numbers of a refusal: 20 to 23 at the place given, 24 and 29 at place 0.
 pub record RefusalNumbers : Type 0 where
   pub no-such-place : (place : ℕ) → refusalPaper (NoPlace place) ≡ paper 20 place
   pub last-poll-unfinished : (place : ℕ) → refusalPaper (Unfinished place) ≡ paper 21 place
@@ -117,18 +116,17 @@ pub record Refuses (b : Bench) (number place : ℕ) (step : Step) : Type 0 where
   pub none-end : step .finishes ≡ []
   pub same-bench : step .bench ≡ b
 
--- That is what `TurnedAway` says here. A refused bench call changes nothing on the bench.
-pub record RefusedChangesNothing : Type 0 where
-  pub turned-away : (b : Bench) (number place : ℕ) (step : Step)
-      → TurnedAway b number place step ↔ Refuses b number place step
-  pub unchanged : (b : Bench) (call : Call) (why : Refusal) → doCall b call .outcome ≡ Refused why
-      → (doCall b call .finishes ≡ []) × (doCall b call .bench ≡ b)
+-- A refused bench call changes nothing on the bench.
+abbrev pub RefusedChangesNothing : Type 0
+RefusedChangesNothing =
+    (b : Bench) (call : Call) (why : Refusal) → doCall b call .outcome ≡ Refused why
+    → (doCall b call .finishes ≡ []) × (doCall b call .bench ≡ b)
 
 -- A call is turned away by the first check that fails, with its number and place, and nothing changes;
 abbrev pub CallTurnedAway : Type 0
 CallTurnedAway =
     (b : Bench) (call : Call) (one : Check) → FirstFailing (callOrder b call) one
-    → TurnedAway b (one .number) (one .place) (doCall b call)
+    → Refuses b (one .number) (one .place) (doCall b call)
 
 -- it is taken where none fails;
 abbrev pub CallTaken : Type 0
@@ -156,7 +154,7 @@ abbrev pub GapPermitted : Type 0
 GapPermitted =
     (b : Bench) (place demand : ℕ) (at : Instant) → Ready b place demand → stateOn b place .last ≡ At at
     → ((release b place demand .outcome ≡ Taken) ↔ (at .0 + rowOn b place .t .0 ≤ b .now .0))
-    × (b .now .0 < at .0 + rowOn b place .t .0 → TurnedAway b 22 place (release b place demand))
+    × (b .now .0 < at .0 + rowOn b place .t .0 → Refuses b 22 place (release b place demand))
 
 -- A row's first release is permitted at each instant.
 abbrev pub FirstReleasePermitted : Type 0
@@ -177,7 +175,7 @@ pub record NotOpened (cores : ℕ) (table : Table) (one : Check) : Type 0 where
   pub on-paper : checkedPaper (openingOf cores table .found) ≡ paper (one .number) (one .place)
   pub stands-for-none : openingOf cores table .bench ≡ noBench
   pub no-bench : opened cores table ≡ none
-  pub no-call : (call : Call) → TurnedAway noBench 29 0 (doCall noBench call)
+  pub no-call : (call : Call) → Refuses noBench 29 0 (doCall noBench call)
 
 abbrev pub OpeningRefused : Type 0
 OpeningRefused =
@@ -206,10 +204,10 @@ ClockTo1000000000 =
     (cores : ℕ) (table : Table) (start : Bench) → opened cores table ≡ some start → (calls : List Call)
     → (after start calls .now .0 < 1000000000 → tick (after start calls) .outcome ≡ Taken)
     × (after start calls .now .0 ≡ 1000000000
-    → TurnedAway (after start calls) 24 0 (tick (after start calls)))
+    → Refuses (after start calls) 24 0 (tick (after start calls)))
 
 -- The answer lists the rows that finished: 32 entries, the first of them these polls, every later one blank.
-pub record Lists (polls : List Finish) (answer : Finishes) : Type 0 where
+pub record ListsPolls (polls : List Finish) (answer : Finishes) : Type 0 where
   pub how-many : answer .count ≡ length polls
   pub first : take (length polls) (answer .list) ≡ polls
   pub blank :
@@ -219,10 +217,11 @@ pub record Lists (polls : List Finish) (answer : Finishes) : Type 0 where
 
 abbrev pub EndedListed : Type 0
 EndedListed =
-    ((polls : List Finish) → length polls ≤ 32 → Lists polls (finishesOf polls))
-    × ((b : Bench) → Lists (tick b .finishes) (tickedOf (tick b) .finishes))
+    ((polls : List Finish) → length polls ≤ 32 → ListsPolls polls (finishesOf polls))
+    × ((b : Bench) → ListsPolls (tick b .finishes) (tickedOf (tick b) .finishes))
 
--- The functions answer so: a step's outcome, its list of polls and its bench; a judge, a call's outcome.
+-- What the functions answer by value: `release` and `tick` the step's outcome, its list of polls and its
+-- bench; `judge_release` and `judge_tick` the outcome alone.
 pub record CallsAnswered : Type 0 where
   pub last-instant : lastInstant ≡ 1000000000
   pub judge-release : (b : Bench) (place demand : ℕ)

@@ -11,9 +11,10 @@ use Rattle.quantities.specs.Paper.{paper, faultPaper, FirstOf}
 use Rattle.quantities.specs.Checks.{Check, FirstFailing}
 use Rattle.windows.specs.declared.Answer.{Answer}
 use Rattle.windows.specs.declared.Answer.the-variants.{Refused}
-use Rattle.windows.specs.Answer.{Judged, judgedInto, paperOf}
+use Rattle.windows.specs.Answer.{Judged, judged, judgedInto, paperOf}
 use Rattle.analysis.specs.Analysis.{numbers, analysisOf}
-use Rattle.lentrows.specs.Lent.{LentAnalysis}
+use Rattle.lentrows.specs.declared.Told.{Told}
+use Rattle.lentrows.specs.Lent.{LentAnalysis, toldOf}
 use Rattle.exports.specs.Exported.{rowFrom, rowsFrom, Exported}
 use Rattle.promises.specs.Lists.{lentOrder, faultAt, ListInRange}
 use Rattle.promises.specs.Windows.{JudgedBy}
@@ -23,11 +24,12 @@ use Rattle.promises.specs.Windows.{JudgedBy}
 abbrev pub Lending : Type 1
 Lending = (cores : ℕ) → List Row → (before after : List ℕ) → Answer → Type 0
 
--- ours; entries are numbers of ticks
+-- ours: `analyse_list` over a lent list, each entry of which is a number of ticks
 abbrev pub lent : Lending
 lent cores rows before after answer = LentAnalysis (judgedInto cores (length before) rows) before after answer
 
--- It is what the contract of `analyse_list` says of a lent list of lengths, each read as its number of ticks.
+-- The lent list is one of lengths, each of which is a number of ticks; said of its numbers, the contract of
+-- `analyse_list` is `lent`.
 pub record OfLengths : Type 0 where
   pub none : numbers [] ≡ []
   pub one : (length-of : Ticks) (rest : List Ticks) → numbers (length-of ∷ rest) ≡ length-of .0 ∷ numbers rest
@@ -87,8 +89,21 @@ pub record InEntries (bounds entries : List ℕ) : Type 0 where
 
 abbrev pub ByValue : Type 0
 ByValue =
-    (j : Judged) → length (j .bounds) ≤ 32
-    → (analysisOf j .answer ≡ j .answer) × InEntries (j .bounds) (numbers (analysisOf j .bounds))
+    (cores : ℕ) (rows : List Row)
+    → (analysisOf (judged cores rows) .answer ≡ judged cores rows .answer)
+    × InEntries (judged cores rows .bounds) (numbers (analysisOf (judged cores rows) .bounds))
+
+-- What `answer_for` tells a caller with a bounds list of so many entries: the answer, the bounds in 32
+-- entries, and how many of them are to be written.
+pub record ToldOf (j : Judged) (told : Told) : Type 0 where
+  pub answer : told .answer ≡ j .answer
+  pub bounds : InEntries (j .bounds) (numbers (told .bounds))
+  pub shown : told .shown ≡ length (j .bounds)
+
+abbrev pub ToldFor : Type 0
+ToldFor =
+    (cores entries : ℕ) (rows : List Row)
+    → ToldOf (judgedInto cores entries rows) (toldOf (judgedInto cores entries rows))
 
 -- A caller in C gives each row as a triple: C, D and T in that order.
 abbrev pub TripleIsRow : Type 0

@@ -17,11 +17,12 @@ use Rattle.bench.specs.declared.Outcome.the-variants.{Taken}
 use Rattle.bench.specs.Refusal.{paperOf}
 use Rattle.bench.specs.Ended.{finishesOf}
 use Rattle.bench.specs.Step.{opened, release, tick}
-use Rattle.bench.specs.History.{Call, ticks}
+use Rattle.bench.specs.History.{Call, releases, ticks, after}
 use Rattle.lentbench.specs.declared.TickAnswer.{TickAnswer}
 use Rattle.lentbench.specs.Lent.{LentTick, ticksFor}
 use Rattle.lentbench.specs.Lent.{LentRelease, LentAnswer, toRelease, toTick, LentRun, RunsHistory}
-use Rattle.promises.specs.Polls.{boundsFor, boundFor, stateOf, ListsNone, Lists}
+use Rattle.promises.specs.Calls.{stateOn}
+use Rattle.promises.specs.Polls.{boundsFor, boundFor, ListsNone, ListsPoll}
 
 -- What is heard of a call: the polls that a tick lists, which are the first `count` entries of its list,
 abbrev pub pollsIn : LentAnswer → List Finish
@@ -57,6 +58,20 @@ abbrev pub LentRunsOn : Type 0
 LentRunsOn =
     (b : Bench) (calls : List Call) → (end : Bench) × (heard : List LentAnswer) × LentRun b calls end heard
 
+-- what is heard of one call after another: each is answered on the bench that the one before it left
+abbrev pub answersHeard : Bench → List Call → List LentAnswer
+answersHeard b [] = []
+answersHeard b (releases place demand ∷ calls) =
+    toRelease (release b place demand .outcome) ∷ answersHeard (release b place demand .bench) calls
+answersHeard b (ticks ∷ calls) =
+    toTick (record { outcome = tick b .outcome; finishes = finishesOf (tick b .finishes) })
+    ∷ answersHeard (tick b .bench) calls
+
+abbrev pub LentRunHears : Type 0
+LentRunHears =
+    (b : Bench) (calls : List Call) (end : Bench) (heard : List LentAnswer)
+    → LentRun b calls end heard ↔ ((end ≡ after b calls) × (heard ≡ answersHeard b calls))
+
 abbrev pub LentRunsHistory : Type 0
 LentRunsHistory =
     (b : Bench) (calls : List Call) (end : Bench) (heard : List LentAnswer)
@@ -65,13 +80,13 @@ LentRunsHistory =
 -- The row at a place was released less than `bound` ticks ago.
 pub record ReleasedWithin (bound : ℕ) (b : Bench) (place : ℕ) : Type 0 where
   pub release : Instant
-  pub last-release : stateOf b place .last ≡ At release
+  pub last-release : stateOn b place .last ≡ At release
   pub less-ago : b .now .0 < release .0 + bound
 
 -- A bound holds for the row at a place in a caller's loop: on the bench at its end, and in each tick heard;
 -- and no answer is 21 for the row, that its last poll is unfinished.
 pub record LentHolds (end : Bench) (heard : List LentAnswer) (place bound : ℕ) : Type 0 where
-  pub over-in-time : 0 < stateOf end place .left .0 → ReleasedWithin bound end place
+  pub over-in-time : 0 < stateOn end place .left .0 → ReleasedWithin bound end place
   pub ends-in-time :
       Each
       (λ (answer : LentAnswer).
@@ -96,7 +111,7 @@ pub record HeardWithin (heard : List LentAnswer) (place bound : ℕ) : Type 0 wh
   pub a-tick : heard ≡ before ++ (toTick answer ∷ later)
   pub none-before : Each (λ (one : LentAnswer). ListsNone place (pollsIn one)) before
   pub response : ℕ
-  pub lists : Lists place response (pollsIn (toTick answer))
+  pub lists : ListsPoll place response (pollsIn (toTick answer))
   pub ticks-passed : response ≡ suc (ticksHeard before)
   pub in-time : response ≤ bound
 

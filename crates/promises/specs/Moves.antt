@@ -61,8 +61,8 @@ pub record OneUnit (before after : RowState) : Type 0 where
   pub demand : after .demand .0 ≡ before .demand .0
   pub remains : after .left .0 + 1 ≡ before .left .0
 
--- A poll finishes in a tick: its row gets the last unit. Its response is the finish instant, which is the
--- instant after growing, minus the release instant.
+-- A poll finishes in a tick: its row gets the last unit. (`-` stops at 0, here and on every page.) Its
+-- response is the finish instant, which is the instant after growing, minus the release instant.
 pub record Finishing (b : Bench) (poll : Finish) : Type 0 where
   pub served : IsServed b (poll .place)
   pub last-unit : stateOn b (poll .place) .left .0 ≡ 1

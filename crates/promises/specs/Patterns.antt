@@ -1,4 +1,4 @@
--- Why formulas (5) and (6): each is the largest work of a row in a window, over all patterns of releases.
+-- Why formulas (5) and (6): the largest work of a row in a window that holds a poll of it, over all patterns.
 use Prim.Native.Nat.{ℕ, _+_, _-_, _≤_, min}
 use mathlib.Core.Path.{_≡_}
 use mathlib.Core.List.{List, [], _∷_}
@@ -24,7 +24,8 @@ pub record WorkWithoutCarry (row : Row) (x w : ℕ) : Type 0 where
 
 -- With carry-in, a poll was released e ticks before the window. It ran in the tick before the window
 -- (document 000, Lemma 1) and is over by its bound r: at most C − 1 and at most r − e ticks of it are left.
--- The releases after it keep the gap T.
+-- The releases after it keep the gap T. (In a window shorter than C what is left of it is not cut at the
+-- window's end: formula (6) is C there, and interference is cut at x − C_k + 1.)
 pub record WorkWithCarry (row : Row) (r x w : ℕ) : Type 0 where
   pub e : ℕ
   pub before : 1 ≤ e

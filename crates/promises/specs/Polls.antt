@@ -10,13 +10,13 @@ use Rattle.laws.specs.Member.{Member}
 use Rattle.quantities.specs.declared.Table.{Table}
 use Rattle.quantities.specs.Table.{rowsOf}
 use Rattle.windows.specs.Answer.{judged}
-use Rattle.bench.specs.declared.Last.the-variants.{Never, At}
-use Rattle.bench.specs.declared.RowState.{RowState}
+use Rattle.bench.specs.declared.Last.the-variants.{At}
 use Rattle.bench.specs.declared.Bench.{Bench}
 use Rattle.bench.specs.declared.Finish.{Finish}
 use Rattle.bench.specs.declared.Outcome.the-variants.{Taken}
 use Rattle.bench.specs.Step.{Step, opened, release, tick}
 use Rattle.bench.specs.History.{Call, releases, ticks, after, steps}
+use Rattle.promises.specs.Calls.{stateOn}
 
 -- the bounds that the analysis gives the rows of a table, and the bound of the row at a place, counted from 1
 abbrev pub boundsFor : (cores : ℕ) → Table → List ℕ
@@ -24,12 +24,6 @@ boundsFor cores table = judged cores (rowsOf table) .bounds
 
 abbrev pub boundFor : (cores : ℕ) → Table → (place : ℕ) → ℕ
 boundFor cores table place = getD (boundsFor cores table) (place - 1) 0
-
--- the state that a bench holds of the row at a place: last release, released demand, what remains of it
-abbrev pub stateOf : Bench → (place : ℕ) → RowState
-stateOf b place =
-    getD (b .states) (place - 1)
-    (record { last = Never; demand = record { 0 = 0 }; left = record { 0 = 0 } })
 
 -- how many of some calls are ticks
 abbrev pub ticksAmong : List Call → ℕ
@@ -48,7 +42,7 @@ abbrev pub ListsNone : (place : ℕ) → List Finish → Type 0
 ListsNone place polls = Each (λ (poll : Finish). poll .place ≡ place → ⊥) polls
 
 -- or it is, with this response and with no other.
-pub record Lists (place response : ℕ) (polls : List Finish) : Type 0 where
+pub record ListsPoll (place response : ℕ) (polls : List Finish) : Type 0 where
   pub listed : Member (record { place = place; response = record { 0 = response } }) polls
   pub no-other : Each (λ (poll : Finish). poll .place ≡ place → poll .response .0 ≡ response) polls
 
@@ -62,7 +56,7 @@ pub record EndsWithin (b : Bench) (more : List Call) (place released bound : ℕ
   pub a-tick : more ≡ before ++ (ticks ∷ later)
   pub none-before : Each (λ (step : Step). ListsNone place (step .finishes)) (steps b before)
   pub response : ℕ
-  pub lists : Lists place response (tick (after b before) .finishes)
+  pub lists : ListsPoll place response (tick (after b before) .finishes)
   pub finish-minus-release : released + response ≡ tick (after b before) .bench .now .0
   pub ticks-passed : response ≡ suc (ticksAmong before)
   pub in-time : response ≤ bound
@@ -70,8 +64,8 @@ pub record EndsWithin (b : Bench) (more : List Call) (place released bound : ℕ
 -- No call that follows lists the row: its poll is unfinished, and was released less than `bound` ticks ago.
 pub record Unfinished (b : Bench) (more : List Call) (place released bound : ℕ) : Type 0 where
   pub none-listed : Each (λ (step : Step). ListsNone place (step .finishes)) (steps b more)
-  pub last-release : stateOf (after b more) place .last ≡ At (record { 0 = released })
-  pub work-left : 0 < stateOf (after b more) place .left .0
+  pub last-release : stateOn (after b more) place .last ≡ At (record { 0 = released })
+  pub work-left : 0 < stateOn (after b more) place .left .0
   pub in-time : after b more .now .0 < released + bound
 
 -- A poll starts: a bench was opened for a table, any calls were made on it, and now the release of a demand

@@ -1,6 +1,8 @@
 -- The three demands. Each is proved in proofs/Promises.antt, of the definitions that the contracts cite.
 -- The sentences stand on the pages beside this one, each with its numbers; the records below say which belong
--- to which demand. Page Words has the words that they share.
+-- to which demand. Page Words has the words that they share. Three fields are words of other crates, kept
+-- beside what the pages say: ReadToMeans (what the reader's own reading stands for), BoundsHold,
+-- ReplayInTime.
 use Prim.Native.Nat.{ℕ}
 use mathlib.Core.List.{List}
 use Rattle.quantities.specs.declared.Row.{Row}
@@ -15,12 +17,12 @@ use Rattle.running.specs.Replayed.{ReplayInTime}
 use Rattle.promises.specs.Sheets.{SheetEither, SheetTaken, TakenSheetIsWhole, SheetTurnedAway}
 use Rattle.promises.specs.Sheets.{RefusedSheetHasFault}
 use Rattle.promises.specs.Sheets.{WholeLength, NoByteAtTheEnd, SheetsRead, OneReading}
-use Rattle.promises.specs.SheetRecords.{RecordsComeBack, PrioritiesTo999, RowRecordsTo32, ThirtyTwoTaken}
+use Rattle.promises.specs.SheetRecords.{RecordsComeBack, PartsTold, PrioritiesTo999, RowRecordsTo32, ThirtyTwoTaken}
 use Rattle.promises.specs.Lists.{FaultyListTurnedAway, RefusedListHasFault, TakenExactly}
 use Rattle.promises.specs.Lists.{CoresTo16, RowsTo32, GapsTo1000000}
 use Rattle.promises.specs.Tables.{NamedLimits, TableMade, TableChecked}
 use Rattle.promises.specs.Lent.{Lending, lent, LentAnswered, LentTurnedAway, RefusedLentHasFault}
-use Rattle.promises.specs.Lent.{OfLengths, LentJudged, ByValue, TripleIsRow, TriplesInOrder, CallersInC}
+use Rattle.promises.specs.Lent.{OfLengths, LentJudged, ByValue, ToldFor, TripleIsRow, TriplesInOrder, CallersInC}
 use Rattle.promises.specs.Calls.{BrokenExactly, Gives29, CallTurnedAway, CallTaken, RefusedCallHasFault}
 use Rattle.promises.specs.Calls.{GapPermitted, FirstReleasePermitted, OpeningRefused, OpeningTaken}
 use Rattle.promises.specs.Calls.{RefusedChangesNothing, OpenedHolds, RefusalNumbers, ClockTo1000000000, EndedListed, CallsAnswered}
@@ -30,8 +32,10 @@ use Rattle.promises.specs.Moves.{ReleaseStarts, TickServes, NoOtherTick}
 use Rattle.promises.specs.Windows.{JudgedRight, OneJudgement, LargestTotal, FloorForm, BoundsSolve, FormulasAnswered}
 use Rattle.promises.specs.Patterns.{PlainIsLargest, CarryIsLargest, NoMoreThanCarry}
 use Rattle.promises.specs.Tool.{GoesTheWholeWay, OneText, InDecimal, WordsInBytes, TextInFront, First1024}
+use Rattle.promises.specs.Tool.{OutputOfDocument}
 use Rattle.promises.specs.Polls.{ClockCounts, PollsEnd, PollsEndInTicks, PollsEndOrWait}
-use Rattle.promises.specs.LentPolls.{LentCallsAnswer, LentRunsOn, LentRunsHistory, LentBoundsHold, LentPollsEnd}
+use Rattle.promises.specs.LentPolls.{LentCallsAnswer, LentRunsOn, LentRunHears, LentRunsHistory}
+use Rattle.promises.specs.LentPolls.{LentBoundsHold, LentPollsEnd}
 use Rattle.promises.specs.Histories.{HistoryRuns, Books}
 use Rattle.promises.specs.Below.{AnswerFromAbove, RunFromAbove}
 
@@ -47,6 +51,7 @@ pub record SheetsAnswered : Type 0 where
   pub lengths : WholeLength
   pub readings : ReadToMeans
   pub records : RecordsComeBack
+  pub parts : PartsTold
   pub priorities : PrioritiesTo999
   pub thirty-third-row : RowRecordsTo32
   pub thirty-two-rows : ThirtyTwoTaken
@@ -70,6 +75,7 @@ pub record LentListsAnswered : Type 0 where
   pub turned-away : LentTurnedAway lent
   pub refused : RefusedLentHasFault lent
   pub by-value : ByValue
+  pub told : ToldFor
   pub triple : TripleIsRow
   pub triples : TriplesInOrder
   pub in-c : CallersInC
@@ -140,8 +146,8 @@ pub record Demand2For (read : Reader) (judge : Judge) (lend : Lending) (tool : T
   pub whole-way : GoesTheWholeWay tool
 
 -- It holds of ours; specs/Fakes.antt has some that it does not hold of. It leaves one reading, one judgement
--- and one text. The window formulas are no larger than they have to be: each is the largest work of a row,
--- over all patterns of releases.
+-- and one text. The window formulas are no larger than they have to be: in a window that holds a poll of the
+-- row, each is the largest work of the row over all patterns of releases (page Patterns).
 pub record Demand2 : Type 0 where
   pub ours : Demand2For readOf judged lent textOf
   pub one-reading : OneReading
@@ -157,6 +163,7 @@ pub record Demand2 : Type 0 where
   pub digits : InDecimal
   pub words : WordsInBytes
   pub printed : TextInFront
+  pub document : OutputOfDocument
   pub first-bytes : First1024
 
 -- Demand 3. The bound holds on a running board: from an empty bench, over any sequence of calls, refused ones
@@ -170,6 +177,7 @@ pub record Demand3 : Type 0 where
   pub or-wait : PollsEndOrWait
   pub clock : ClockCounts
   pub lent-runs : LentRunsOn
+  pub lent-hears : LentRunHears
   pub lent-histories : LentRunsHistory
   pub lent-holds : LentBoundsHold
   pub lent-polls-end : LentPollsEnd

@@ -1,11 +1,11 @@
 -- The order sheet in bytes: which sheets are taken, which number and place turn one away, and what is read.
-use Prim.Native.Nat.{ℕ, zero, suc, _+_, _*_, _≤_, _<_}
+use Prim.Native.Nat.{ℕ, zero, suc, _+_, _-_, _*_, _≤_, _<_}
 use mathlib.Core.Path.{_≡_}
 use mathlib.Core.Logic.{_⊎_}
 use mathlib.Core.Bool.{Bool, false, not, cond, _||_}
 use mathlib.Core.List.{List, [], _∷_, _++_, map}
 use lib.Dec.{eqb, leb, ltb}
-use lib.ListN.{length, getD, take}
+use lib.ListN.{length, getD, take, drop, replicate}
 use Rattle.laws.specs.Each.{Each}
 use Rattle.laws.specs.Permuted.{Permuted}
 use Rattle.quantities.specs.Checks.{Check, check, FirstFailing}
@@ -115,10 +115,15 @@ pub record WholeWith (sheet : List ℕ) (n : ℕ) : Type 0 where
   pub end-passes : AllPass (laterOrder sheet n)
   pub is-end : byte sheet (behind n) ≡ 3
 
+-- a sheet of no board and no row: each of its 32 entries is blank
+abbrev pub blankSheet : Sheet
+blankSheet = record { cores = 0; tick = record { 0 = 0 }; count = 0; entries = replicate 32 noEntry }
+
 -- A sheet is turned away with a number and a place. A refused sheet yields no table.
 pub record TurnedAway (number place : ℕ) (outcome : Outcome) : Type 0 where
   pub answers : outcome .verdict ≡ Refused number place
   pub on-paper : paperOf (outcome .verdict) ≡ paper number place
+  pub no-sheet : outcome .sheet ≡ blankSheet
   pub no-entries : entriesOf (outcome .sheet) ≡ []
   pub no-rows : rowsOf (tableOf (outcome .sheet)) ≡ []
 
@@ -188,6 +193,7 @@ pub record SheetRead (sheet : List ℕ) (n : ℕ) (answer : Sheet) : Type 0 wher
   pub counted : length (entriesOf answer) ≡ n
   pub count : answer .count ≡ n
   pub listed : entriesOf answer ≡ take n (answer .entries)
+  pub blank : drop n (answer .entries) ≡ replicate (32 - n) noEntry
   pub table : rowsOf (tableOf answer) ≡ map (λ (entry : Entry). entry .row) (entriesOf answer)
   pub table-count : tableOf answer .count ≡ n
   pub table-rows : take n (tableOf answer .rows) ≡ map (λ (entry : Entry). entry .row) (entriesOf answer)
@@ -200,9 +206,7 @@ SheetsRead read =
     (sheet : List ℕ) (n : ℕ) → WholeWith sheet n
     → (read sheet .verdict ≡ Sound) × SheetRead sheet n (read sheet .sheet)
 
--- That leaves one answer: the same entries and the same rows.
+-- That leaves one answer.
 abbrev pub OneReading : Type 0
 OneReading =
-    (sheet : List ℕ) (n : ℕ) (a b : Sheet) → SheetRead sheet n a → SheetRead sheet n b
-    → (entriesOf a ≡ entriesOf b) × (rowsOf (tableOf a) ≡ rowsOf (tableOf b))
-    × (a .cores ≡ b .cores) × (a .tick .0 ≡ b .tick .0)
+    (sheet : List ℕ) (n : ℕ) (a b : Sheet) → SheetRead sheet n a → SheetRead sheet n b → a ≡ b

@@ -4,6 +4,7 @@ use mathlib.Core.Path.{_≡_}
 use mathlib.Core.List.{List, [], _∷_, _++_}
 use mathlib.Core.Option.{Option, none, some}
 use lib.ListN.{replicate}
+use Rattle.laws.specs.Each.{Each}
 use Rattle.quantities.specs.declared.Table.{Table}
 use Rattle.quantities.specs.declared.Fault.the-variants.{WholeList, OneRow}
 use Rattle.quantities.specs.Row.{rowOf, noRow}
@@ -81,3 +82,6 @@ benchClaims =
 
 abbrev pub claims : List (Type 0)
 claims = windowClaims ++ listClaims ++ benchClaims
+
+abbrev pub StarredHold : Type 0
+StarredHold = Each (λ claim. claim) claims

@@ -27,6 +27,7 @@ pub record TableMade : Type 0 where
   pub one-more : (table : Table) (row : Row) → length (table .rows) ≡ 32 → table .count < 32
       → rowsOf (withRow table row) ≡ rowsOf table ++ (row ∷ [])
   pub full : (table : Table) (row : Row) → 32 ≤ table .count → length (rowsOf (withRow table row)) ≡ 33
+  pub full-keeps : (table : Table) (row : Row) → 32 ≤ table .count → withRow table row .rows ≡ table .rows
 
 -- `Table::check` answers checks 1 to 6 in the order of a list.
 pub record TableChecked : Type 0 where

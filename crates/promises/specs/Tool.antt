@@ -1,4 +1,4 @@
--- The whole way, from the bytes of a sheet to the text that the desk signs: the rows read are those judged.
+-- The whole way, from the bytes of a sheet to its text: the rows that are read are judged and printed.
 use Prim.Native.Nat.{ℕ, zero, suc, _+_, _*_, _≤_, _<_}
 use mathlib.Core.Path.{_≡_}
 use mathlib.Core.List.{List, [], _∷_, _++_, map}
@@ -106,7 +106,22 @@ abbrev pub TextInFront : Type 0
 TextInFront =
     (sheet buffer after : List ℕ) (count : ℕ) → Printed sheet buffer after count
     → (2856 ≤ length buffer → (take count after ≡ textOf sheet) × (drop count after ≡ drop count buffer))
+    × (2856 ≤ length buffer → (count ≡ length (textOf sheet)) × (length (textOf sheet) ≤ 2856))
     × (length buffer < 2856 → (after ≡ buffer) × (count ≡ 0))
+
+-- The sheet of document 01, and its output.
+abbrev pub sheetOfDocument : List ℕ
+sheetOfDocument =
+    (1 ∷ 2 ∷ 0 ∷ 100 ∷ [])
+    ++ (2 ∷ 0 ∷ 101 ∷ 0 ∷ 1 ∷ 0 ∷ 0 ∷ 0 ∷ 200 ∷ 0 ∷ 0 ∷ 1 ∷ 244 ∷ 0 ∷ 0 ∷ 1 ∷ 244 ∷ [])
+    ++ (2 ∷ 0 ∷ 110 ∷ 0 ∷ 10 ∷ 0 ∷ 0 ∷ 0 ∷ 200 ∷ 0 ∷ 0 ∷ 1 ∷ 144 ∷ 0 ∷ 0 ∷ 3 ∷ 232 ∷ [])
+    ++ (2 ∷ 0 ∷ 102 ∷ 0 ∷ 2 ∷ 0 ∷ 0 ∷ 1 ∷ 44 ∷ 0 ∷ 0 ∷ 3 ∷ 32 ∷ 0 ∷ 0 ∷ 3 ∷ 32 ∷ [])
+    ++ (3 ∷ 3 ∷ [])
+
+abbrev pub OutputOfDocument : Type 0
+OutputOfDocument =
+    textOf sheetOfDocument
+    ≡ ascii "cores 2 tick 100 rows 3\n1 101 2 5\n2 102 3 8\n3 110 4 4\nall shown\n"
 
 -- The program reads at most 1,024 bytes: what follows makes no difference.
 abbrev pub First1024 : Type 0

@@ -63,7 +63,8 @@ pub record StandsIn (A : Type 0) (a : A) (list : List A) (none : A) : Type 0 whe
 abbrev pub MemberMeans : Type 1
 MemberMeans = (A : Type 0) (a : A) (list : List A) (none : A) → Member a list ↔ StandsIn A a list none
 
--- Permuted lists are as long, and have the same elements.
+-- Permuted lists are as long, and have the same elements. (Where no two elements are equal, as with rows of
+-- different priority, each then stands once.)
 abbrev pub PermutedMeans : Type 1
 PermutedMeans =
     (A : Type 0) (list other : List A) → Permuted list other

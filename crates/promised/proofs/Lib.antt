@@ -1,0 +1,3 @@
+-- What the contracts below the promises say is what the promises say.
+pub mod Promised
+pub mod Lent

@@ -1,0 +1,246 @@
+-- An answer that is the one a contract names is the one that specs/Promised.antt promises.
+use Prim.Native.Nat.{ℕ}
+use native.Mathlib.Omega.{arith}
+use native.Mathlib.Decide.{decLe}
+use mathlib.Core.Path.{_≡_, refl, sym, ap, subst, _∙_}
+use mathlib.Core.Bool.{Bool}
+use mathlib.Core.List.{List, []}
+use mathlib.Core.Option.{Option, none, some}
+use lib.ListN.{length, drop}
+use Rattle.quantities.specs.declared.Row.{Row}
+use Rattle.quantities.specs.declared.Table.{Table}
+use Rattle.quantities.specs.declared.Checked.{Checked}
+use Rattle.quantities.specs.Table.{rowsOf, emptyTable, withRow}
+use Rattle.quantities.specs.Checks.{listFault, checkedOf}
+use Rattle.windows.specs.Answer.{judged, judgedInto, paperOf}
+use Rattle.sheet.specs.Reader.{readOf}
+use Rattle.sheet.specs.declared.Outcome.{Outcome}
+use Rattle.text.specs.Printed.{Printed}
+use Rattle.analysis.specs.Analysis.{numbers, analysisOf}
+use Rattle.analysis.specs.declared.Analysis.{Analysis}
+use Rattle.exports.specs.Exported.{rowsFrom, Exported}
+use Rattle.bench.specs.declared.Bench.{Bench}
+use Rattle.bench.specs.declared.Finish.{Finish}
+use Rattle.bench.specs.declared.Request.{Request}
+use Rattle.bench.specs.declared.Request.the-variants.{Release, Tick}
+use Rattle.bench.specs.declared.Refusal.{Refusal}
+use Rattle.bench.specs.declared.Outcome.{Outcome as CallOutcome}
+use Rattle.bench.specs.declared.Opening.{Opening}
+use Rattle.bench.specs.declared.Released.{Released}
+use Rattle.bench.specs.declared.Ticked.{Ticked}
+use Rattle.bench.specs.Refusal.{paperOf as benchPaper, firstRefusal, releaseTests, tickTests, outcomeOf}
+use Rattle.bench.specs.Record.{broken}
+use Rattle.bench.specs.Ended.{finishesOf}
+use Rattle.bench.specs.Step.{Step, openingOf, release, tick, releasedOf, tickedOf}
+use Rattle.bench.specs.History.{releases, ticks, doCall, callOf}
+use Rattle.bench.proofs.Steps.{release-taken, release-refused}
+use Rattle.replay.specs.declared.Replayed.{Replayed}
+use Rattle.replay.specs.Replay.{Replay, replay}
+use Rattle.promises.specs.Lent.{InEntries}
+use Rattle.promises.specs.Calls.{releaseOrder, tickOrder, ListsPolls}
+use Rattle.promises.proofs.Sheets.{sheets-read, sheet-turned-away}
+use Rattle.promises.proofs.Tool.{goes-the-whole-way, text-at-the-front}
+use Rattle.promises.proofs.Lists.{faulty-list-turned-away}
+use Rattle.promises.proofs.Windows.{judged-right}
+use Rattle.promises.proofs.Lent.{by-value, lent-turned-away, lent-judged, callers-in-c}
+use Rattle.promises.proofs.Tables.{table-made, table-checked}
+use Rattle.promises.proofs.Broken.{broken-exactly}
+use Rattle.promises.proofs.Calls.{call-turned-away, call-taken, gives-29}
+use Rattle.promises.proofs.Openings.{opening-refused, opening-taken, ended-listed, calls-answered}
+use Rattle.promises.proofs.Moves.{release-starts, tick-serves}
+use Rattle.promises.proofs.CallBytes.{replay-answered, replay-no-room, replay-not-opened}
+use Rattle.promised.specs.Promised.{SheetAnswer, TextAnswer, AnalysisAnswer, TableAnswer}
+use Rattle.promised.specs.Promised.{NoRows, OneRowMore, OpeningAnswer, ReleaseAnswer, TickAnswer}
+use Rattle.promised.specs.Promised.{BrokenAnswer, RequestAnswer, OutcomeBy, ReplayAnswer, AnswerForC}
+
+pub sheet-answer : (sheet : List ℕ) (r : Outcome) → r ≡ readOf sheet → SheetAnswer sheet r
+sheet-answer sheet r is =
+    rw is (record { whole = sheets-read sheet; faulty = sheet-turned-away sheet })
+
+pub text-answer : (sheet before after : List ℕ) (count : ℕ) → Printed sheet before after count
+    → TextAnswer sheet before after count
+text-answer sheet before after count printed =
+    let front = text-at-the-front sheet before after count printed in
+    record {
+      whole = λ n whole room. rw (front .0 room .0) (goes-the-whole-way .whole sheet n whole);
+      faulty = λ one fault room. front .0 room .0 ∙ goes-the-whole-way .faulty sheet one fault;
+      many = sym (printed .part);
+      later = elim (decLe 2856 (length before)) [
+        | yes room ↦ front .0 room .1
+        | no short ↦ ap (drop count) (front .2 (omega arith) .0)
+      ];
+      short = front .2;
+    }
+
+pub analysis-answer : (cores : ℕ) (table : Table) (r : Analysis)
+    → r ≡ analysisOf (judged cores (rowsOf table))
+    → AnalysisAnswer cores table r
+analysis-answer cores table r is =
+    let rows = rowsOf table in
+    let j = judged cores rows in
+    rw is
+    (record {
+      in-range = λ range.
+          let (same, entries) = by-value cores rows in
+          record { bounds = j .bounds; right = rw same (judged-right cores rows range); entries = entries };
+      faulty = λ one first.
+          let turned = faulty-list-turned-away cores rows one first in
+          let (same, entries) = by-value cores rows in (
+            same ∙ turned .answers,
+            subst (λ (bounds : List ℕ). InEntries bounds (numbers (analysisOf j .bounds)))
+                (turned .no-bounds) entries,
+          );
+    })
+
+pub table-answer : (cores : ℕ) (table : Table) (r : Checked) → r ≡ checkedOf (listFault cores (rowsOf table))
+    → TableAnswer cores table r
+table-answer cores table r is =
+    record {
+      in-range = λ range. is ∙ table-checked .sound cores table range;
+      faulty = λ one first. is ∙ table-checked .faulty cores table one first;
+    }
+
+pub no-rows-yet : (r : Table) → r ≡ emptyTable → NoRows r
+no-rows-yet r is = rw is (table-made .empty)
+
+pub one-row-more : (table : Table) (row : Row) (r : Table) → length (table .rows) ≡ 32 → r ≡ withRow table row
+    → OneRowMore table row r
+one-row-more table row r many is =
+    rw is (record { below = table-made .one-more table row many; full = table-made .full table row })
+
+pub opening-answer : (cores : ℕ) (table : Table) (r : Opening) → r ≡ openingOf cores table
+    → OpeningAnswer cores table r
+opening-answer cores table r is =
+    rw is
+    (record {
+      in-range = λ range. opening-taken cores table range .0;
+      faulty = λ one first.
+          let refused = opening-refused cores table one first in
+          record {
+            found = refused .found;
+            on-paper = refused .on-paper;
+            no-bench = rw (refused .stands-for-none) (gives-29 _ ticks .0 (refused .no-call ticks .on-paper));
+          };
+    })
+
+pub broken-answer : (b : Bench) (r : Bool) → r ≡ broken b → BrokenAnswer b r
+broken-answer b r is = rw is (broken-exactly b)
+
+-- a bench of the code has a state for each of 32 rows
+pub release-answer : (b : Bench) (place demand : ℕ) (r : Released) → length (b .states) ≡ 32
+    → r ≡ releasedOf (release b place demand) → ReleaseAnswer b place demand r
+unfolding releasedOf
+release-answer b place demand r many is =
+    rw is
+    (record {
+      turned-away = λ one first.
+          let turned = call-turned-away b (releases place demand) one first in
+          (turned .on-paper, turned .same-bench);
+      taken = λ passed.
+          let starts = release-starts b place demand many passed in
+          record {
+            outcome = starts .outcome;
+            last = starts .last;
+            released = starts .released;
+            remains = starts .remains;
+            others = starts .others;
+            clock = starts .clock;
+            board = starts .board;
+            none-end = refl;
+          };
+    })
+
+pub tick-answer : (b : Bench) (r : Ticked) → length (b .states) ≡ 32 → r ≡ tickedOf (tick b) → TickAnswer b r
+unfolding tickedOf
+tick-answer b r many is =
+    rw is
+    (record {
+      turned-away = λ one first.
+          let turned = call-turned-away b ticks one first in
+          record {
+            on-paper = turned .on-paper;
+            none-end =
+                subst (λ (polls : List Finish). ListsPolls polls (tickedOf (tick b) .finishes)) (turned .none-end)
+                (ended-listed .1 b);
+            same-bench = turned .same-bench;
+          };
+      taken = λ passed.
+          record { polls = tick b .finishes; listed = ended-listed .1 b; serves = tick-serves b many passed };
+    })
+
+-- a release ends no poll, whether it is taken or not
+none-ends : (b : Bench) (place demand : ℕ) → release b place demand .finishes ≡ []
+unfolding release
+none-ends b place demand = go (firstRefusal (releaseTests b place demand)) refl
+  where
+    go : (found : Option Refusal) → firstRefusal (releaseTests b place demand) ≡ found
+        → release b place demand .finishes ≡ []
+    go none q = ap (λ (step : Step). step .finishes) (release-taken b place demand q)
+    go (some why) q = ap (λ (step : Step). step .finishes) (release-refused b place demand why q)
+
+pub request-answer : (b : Bench) (request : Request) (r : Ticked) → length (b .states) ≡ 32
+    → r ≡ tickedOf (doCall b (callOf request)) → RequestAnswer b request r
+unfolding tickedOf releasedOf release callOf
+request-answer b Tick r many is = tick-answer b r many is
+request-answer b (Release place demand) r many is = (
+  release-answer b place (demand .0) (record { outcome = r .outcome; bench = r .bench }) many
+      (ap (λ (answer : Ticked). record { outcome = answer .outcome; bench = answer .bench }) is),
+  rw is
+      (subst (λ (polls : List Finish). ListsPolls [] (finishesOf polls)) (sym (none-ends b place (demand .0)))
+      (ended-listed .0 [] (omega arith))),
+)
+
+-- what a judge says is the outcome of the call
+pub release-judged : (b : Bench) (place demand : ℕ) (r : CallOutcome)
+    → r ≡ outcomeOf (firstRefusal (releaseTests b place demand)) → OutcomeBy (releaseOrder b place demand) r
+release-judged b place demand r is =
+    let same = is ∙ calls-answered .judge-release b place demand in
+    record {
+      turned-away = λ one first.
+          ap benchPaper same ∙ call-turned-away b (releases place demand) one first .on-paper;
+      taken = λ passed. same ∙ call-taken b (releases place demand) passed;
+    }
+
+pub tick-judged : (b : Bench) (r : CallOutcome) → r ≡ outcomeOf (firstRefusal (tickTests b))
+    → OutcomeBy (tickOrder b) r
+tick-judged b r is =
+    let same = is ∙ calls-answered .judge-tick b in
+    record {
+      turned-away = λ one first. ap benchPaper same ∙ call-turned-away b ticks one first .on-paper;
+      taken = λ passed. same ∙ call-taken b ticks passed;
+    }
+
+pub replay-answer : (cores : ℕ) (table : Table) (calls before after : List ℕ) (r : Replayed)
+    → r ≡ replay cores table calls before .answer → after ≡ replay cores table calls before .out
+    → ReplayAnswer cores table calls before after r
+replay-answer cores table calls before after r is leaves =
+    rw (is, leaves)
+    (record {
+      all-room = λ range room. replay-answered cores table range calls before room;
+      no-room = λ range done rest next these room short.
+          let stops = replay-no-room cores table range calls before done rest next these room short in
+          (ap (λ (p : Replay). p .answer) stops, ap (λ (p : Replay). p .out) stops);
+      not-opened = λ one first.
+          let none = replay-not-opened cores table one first calls before in
+          (ap (λ (p : Replay). p .answer) none, ap (λ (p : Replay). p .out) none);
+    })
+
+pub answer-for-c : (cores : ℕ) (triples : List (List ℕ)) (before after : List ℕ) (code : ℕ)
+    → Exported (judgedInto cores (length before) (rowsFrom triples)) before after code
+    → AnswerForC cores (rowsFrom triples) before after code
+unfolding paperOf
+answer-for-c cores triples before after code exported =
+    let rows = rowsFrom triples in
+    let to-c = callers-in-c cores triples before after code exported in
+    record {
+      judges = λ range room.
+          record {
+            answer = to-c .answer;
+            right = lent-judged cores rows before after (to-c .answer) (to-c .given) range room;
+            all-shown = λ e. to-c .coded ∙ rw e refl;
+            not-shown = λ place e. to-c .coded ∙ rw e refl;
+          };
+      faulty = λ one first.
+          let turned = lent-turned-away cores rows before after (to-c .answer) one (to-c .given) first in
+          (to-c .coded ∙ rw (turned .on-paper) refl, turned .same-list);
+    }

@@ -1,0 +1,180 @@
+-- What the public functions answer, in the promises' own words: a record for each.
+use Prim.Native.Nat.{ℕ, suc, _+_, _*_, _≤_, _<_}
+use mathlib.Core.Path.{_≡_}
+use mathlib.Core.Logic.{_↔_}
+use mathlib.Core.Bool.{Bool, true, false}
+use mathlib.Core.List.{List, [], _∷_, _++_}
+use lib.ListN.{length, take, drop}
+use Rattle.laws.specs.Each.{Each}
+use Rattle.quantities.specs.declared.Row.{Row}
+use Rattle.quantities.specs.declared.Table.{Table}
+use Rattle.quantities.specs.declared.Checked.{Checked}
+use Rattle.quantities.specs.declared.Checked.the-variants.{Sound, Faulty}
+use Rattle.quantities.specs.Table.{rowsOf}
+use Rattle.quantities.specs.Paper.{paper, paperOf as checkedPaper}
+use Rattle.quantities.specs.Checks.{Check, FirstFailing}
+use Rattle.windows.specs.declared.Answer.{Answer}
+use Rattle.windows.specs.declared.Answer.the-variants.{Shown, NotShown, Refused}
+use Rattle.sheet.specs.declared.Verdict.the-variants.{Sound as SoundSheet}
+use Rattle.sheet.specs.declared.Outcome.{Outcome}
+use Rattle.analysis.specs.Analysis.{numbers}
+use Rattle.analysis.specs.declared.Analysis.{Analysis}
+use Rattle.bench.specs.declared.Bench.{Bench}
+use Rattle.bench.specs.declared.Finish.{Finish}
+use Rattle.bench.specs.declared.Request.{Request}
+use Rattle.bench.specs.declared.Request.the-variants.{Release, Tick}
+use Rattle.bench.specs.declared.Outcome.{Outcome as CallOutcome}
+use Rattle.bench.specs.declared.Outcome.the-variants.{Taken}
+use Rattle.bench.specs.declared.Opening.{Opening}
+use Rattle.bench.specs.declared.Released.{Released}
+use Rattle.bench.specs.declared.Ticked.{Ticked as TickedBench}
+use Rattle.bench.specs.Refusal.{paperOf}
+use Rattle.replay.specs.declared.Replayed.{Replayed}
+use Rattle.replay.specs.declared.Replayed.the-variants.{NotOpened, NoRoom}
+use Rattle.replay.specs.Replay.{requestsIn}
+use Rattle.promises.specs.Sheets.{WholeWith, FirstFault, SheetRead, TurnedAway}
+use Rattle.promises.specs.Tool.{refusedText, WholeWay}
+use Rattle.promises.specs.Lists.{listOrder, lentOrder, faultAt, ListInRange}
+use Rattle.promises.specs.Windows.{JudgedBy}
+use Rattle.promises.specs.Lent.{InEntries, LeftAlone, LentJudgement}
+use Rattle.promises.specs.Calls.{releaseOrder, tickOrder, newBench, RecordBroken, ListsPolls}
+use Rattle.promises.specs.Moves.{PollStarted, Ticked}
+use Rattle.promises.specs.CallBytes.{answersTo, ReplayAnswers}
+
+-- `sheet::read`: a sheet without fault is taken, with what stands on it; one with a fault is turned away by
+-- its first one.
+pub record SheetAnswer (sheet : List ℕ) (r : Outcome) : Type 0 where
+  pub whole : (n : ℕ) → WholeWith sheet n → (r .verdict ≡ SoundSheet) × SheetRead sheet n (r .sheet)
+  pub faulty : (one : Check) → FirstFault sheet one → TurnedAway (one .number) (one .place) r
+
+-- `text::print_answer`: the text of a sheet is at the front of a lent buffer of 2,856 bytes or more, and
+-- every later byte is as it was; a shorter buffer is as it was, and none of its bytes is the text.
+pub record TextAnswer (sheet before after : List ℕ) (count : ℕ) : Type 0 where
+  pub whole : (n : ℕ) → WholeWith sheet n → 2856 ≤ length before → WholeWay sheet n (take count after)
+  pub faulty : (one : Check) → FirstFault sheet one → 2856 ≤ length before
+      → take count after ≡ refusedText (one .number) (one .place)
+  pub many : length (take count after) ≡ count
+  pub later : drop count after ≡ drop count before
+  pub short : length before < 2856 → (after ≡ before) × (count ≡ 0)
+
+-- The rows of a table in range are judged: the answer, and its bounds in the first of 32 entries.
+pub record TableJudged (cores : ℕ) (rows : List Row) (r : Analysis) : Type 0 where
+  pub bounds : List ℕ
+  pub right : JudgedBy cores rows (record { answer = r .answer; bounds = bounds })
+  pub entries : InEntries bounds (numbers (r .bounds))
+
+-- `analysis::analyse`: a table in range is judged, and one with a fault is turned away by it, with no bounds.
+pub record AnalysisAnswer (cores : ℕ) (table : Table) (r : Analysis) : Type 0 where
+  pub in-range : ListInRange cores (rowsOf table) → TableJudged cores (rowsOf table) r
+  pub faulty : (one : Check) → FirstFailing (listOrder cores (rowsOf table)) one
+      → (r .answer ≡ Refused (faultAt (one .number) (one .place))) × InEntries [] (numbers (r .bounds))
+
+-- `Table::check`: checks 1 to 6 in the order of a list.
+pub record TableAnswer (cores : ℕ) (table : Table) (r : Checked) : Type 0 where
+  pub in-range : ListInRange cores (rowsOf table) → r ≡ Sound
+  pub faulty : (one : Check) → FirstFailing (listOrder cores (rowsOf table)) one
+      → r ≡ Faulty (faultAt (one .number) (one .place))
+
+-- `Table::empty` has no row. `Table::with_row` has one row more, below the others; a full table then counts
+-- 33 rows, so that 1 turns it away.
+abbrev pub NoRows : (r : Table) → Type 0
+NoRows r = rowsOf r ≡ []
+
+pub record OneRowMore (table : Table) (row : Row) (r : Table) : Type 0 where
+  pub below : table .count < 32 → rowsOf r ≡ rowsOf table ++ (row ∷ [])
+  pub full : 32 ≤ table .count → length (rowsOf r) ≡ 33
+
+-- A table with a fault gives no bench: what stands there is broken, so that each call on it gives 29.
+pub record NoBench (one : Check) (r : Opening) : Type 0 where
+  pub found : r .found ≡ Faulty (faultAt (one .number) (one .place))
+  pub on-paper : checkedPaper (r .found) ≡ paper (one .number) (one .place)
+  pub no-bench : RecordBroken (r .bench)
+
+-- `Bench::opened`: a table in range is opened at instant 0, with no row released.
+pub record OpeningAnswer (cores : ℕ) (table : Table) (r : Opening) : Type 0 where
+  pub in-range : ListInRange cores (rowsOf table) → r ≡ record { found = Sound; bench = newBench cores table }
+  pub faulty : (one : Check) → FirstFailing (listOrder cores (rowsOf table)) one → NoBench one r
+
+-- `Bench::broken`: whether 29 is due.
+abbrev pub BrokenAnswer : Bench → Bool → Type 0
+BrokenAnswer b r = (r ≡ true) ↔ RecordBroken b
+
+-- `Bench::release`: turned away by the first check that fails, with nothing changed on the bench; taken where
+-- none does, and a poll starts.
+pub record ReleaseAnswer (b : Bench) (place demand : ℕ) (r : Released) : Type 0 where
+  pub turned-away : (one : Check) → FirstFailing (releaseOrder b place demand) one
+      → (paperOf (r .outcome) ≡ paper (one .number) (one .place)) × (r .bench ≡ b)
+  pub taken : Each (λ one. one .fails ≡ false) (releaseOrder b place demand)
+      → PollStarted b place demand (record { outcome = r .outcome; finishes = []; bench = r .bench })
+
+-- A tick that is turned away: its number and place, no poll that ended, and the bench as it was.
+pub record TickTurnedAway (b : Bench) (one : Check) (r : TickedBench) : Type 0 where
+  pub on-paper : paperOf (r .outcome) ≡ paper (one .number) (one .place)
+  pub none-end : ListsPolls [] (r .finishes)
+  pub same-bench : r .bench ≡ b
+
+-- A tick that is taken serves the highest rows, and lists the polls that ended.
+pub record TickTaken (b : Bench) (r : TickedBench) : Type 0 where
+  pub polls : List Finish
+  pub listed : ListsPolls polls (r .finishes)
+  pub serves : Ticked b (record { outcome = r .outcome; finishes = polls; bench = r .bench })
+
+-- `Bench::tick`.
+pub record TickAnswer (b : Bench) (r : TickedBench) : Type 0 where
+  pub turned-away : (one : Check) → FirstFailing (tickOrder b) one → TickTurnedAway b one r
+  pub taken : Each (λ one. one .fails ≡ false) (tickOrder b) → TickTaken b r
+
+-- `run`: as many ticks as it is told, each on the bench that the one before it left.
+pub data RunsFor : (ticks : ℕ) → (b left : Bench) → Type 0 where
+  over : {b : Bench} → RunsFor 0 b b
+  one-more : {n : ℕ} {b left : Bench} (r : TickedBench) → TickAnswer b r → RunsFor n (r .bench) left
+      → RunsFor (suc n) b left
+
+-- `Bench::answer`: a tick as above, and a release, which ends no poll.
+abbrev pub RequestAnswer : Bench → Request → (r : TickedBench) → Type 0
+RequestAnswer b Tick r = TickAnswer b r
+RequestAnswer b (Release place demand) r =
+    ReleaseAnswer b place (demand .0) (record { outcome = r .outcome; bench = r .bench })
+    × ListsPolls [] (r .finishes)
+
+-- `Bench::judge_release` and `Bench::judge_tick`: the first check that fails, or that none does.
+pub record OutcomeBy (checks : List Check) (r : CallOutcome) : Type 0 where
+  pub turned-away : (one : Check) → FirstFailing checks one → paperOf r ≡ paper (one .number) (one .place)
+  pub taken : Each (λ one. one .fails ≡ false) checks → r ≡ Taken
+
+-- `replay::replay`: every call answered where there is room for all answers; the answers to the first calls
+-- where there is none for the next one; and no answer on a board that is not opened.
+pub record ReplayAnswer (cores : ℕ) (table : Table) (calls before after : List ℕ) (r : Replayed)
+    : Type 0 where
+  pub all-room : ListInRange cores (rowsOf table)
+      → length (answersTo (newBench cores table) (requestsIn calls .list)) ≤ length before
+      → ReplayAnswers (newBench cores table) calls before (record { answer = r; out = after })
+  pub no-room : ListInRange cores (rowsOf table)
+      → (done rest : List Request) (next : Request) → requestsIn calls .list ≡ done ++ next ∷ rest
+      → length (answersTo (newBench cores table) done) ≤ length before
+      → length before < length (answersTo (newBench cores table) (done ++ next ∷ []))
+      → (r ≡ NoRoom (6 * length done))
+      × (after
+      ≡ answersTo (newBench cores table) done ++ drop (length (answersTo (newBench cores table) done)) before)
+  pub not-opened : (one : Check) → FirstFailing (listOrder cores (rowsOf table)) one
+      → (r ≡ NotOpened (faultAt (one .number) (one .place))) × (after ≡ before)
+
+-- `analyse_list`: the caller's list is judged, or turned away by its first fault, 7 after the rows' checks.
+pub record LentAnswer (cores : ℕ) (rows : List Row) (before after : List ℕ) (r : Answer) : Type 0 where
+  pub judges : ListInRange cores rows → length rows ≤ length before → LentJudgement cores rows before after r
+  pub faulty : (one : Check) → FirstFailing (lentOrder cores (length before) rows) one
+      → LeftAlone one before after r
+
+-- A list in range is judged for a caller in C: 0 where every row is shown, or 8 times 2 to the 32nd plus the
+-- place of the first row not shown.
+pub record JudgedForC (cores : ℕ) (rows : List Row) (before after : List ℕ) (code : ℕ) : Type 0 where
+  pub answer : Answer
+  pub right : LentJudgement cores rows before after answer
+  pub all-shown : answer ≡ Shown → code ≡ 0
+  pub not-shown : (place : ℕ) → answer ≡ NotShown place → code ≡ 8 * 4294967296 + place
+
+-- `dipperslate_analyse`: the number times 2 to the 32nd plus the place, and what the lent list is left with.
+pub record AnswerForC (cores : ℕ) (rows : List Row) (before after : List ℕ) (code : ℕ) : Type 0 where
+  pub judges : ListInRange cores rows → length rows ≤ length before → JudgedForC cores rows before after code
+  pub faulty : (one : Check) → FirstFailing (lentOrder cores (length before) rows) one
+      → (code ≡ one .number * 4294967296 + one .place) × (after ≡ before)

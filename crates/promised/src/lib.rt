@@ -1,0 +1,137 @@
+//! Each public function, called with nothing added: the contracts here are the promises' own words, so that a
+//! contract below cannot change together with its code and leave the promises behind.
+use analysis::Analysis;
+use bench::Bench;
+use bench::Opening;
+use bench::Released;
+use bench::Request;
+use bench::Ticked;
+use quantities::Checked;
+use quantities::Instant;
+use quantities::Row;
+use quantities::Table;
+use quantities::Ticks;
+use replay::Replayed;
+use sheet::Outcome;
+ghost use mathlib.Core.Path.{_≡_};
+ghost use Rattle.exports.specs.Exported.{rowsFrom};
+ghost use Rattle.promised.specs.Promised.{SheetAnswer, TextAnswer, AnalysisAnswer, TableAnswer};
+ghost use Rattle.promised.specs.Promised.{NoRows, OneRowMore, OpeningAnswer, ReleaseAnswer};
+ghost use Rattle.promised.specs.Promised.{BrokenAnswer, TickAnswer, RequestAnswer, OutcomeBy};
+ghost use Rattle.promised.specs.Promised.{ReplayAnswer, AnswerForC};
+ghost use Rattle.promises.specs.Calls.{releaseOrder, tickOrder};
+
+pub fn read_sheet(sheet: &[u8]) -> Outcome
+    ensures { λ r. ⌜ SheetAnswer (now (sheet .entry)) r ⌝ }
+{
+    sheet::read(sheet)
+}
+
+pub fn print_text(sheet: &[u8], out: &mut [u8]) -> usize
+    ensures { λ r. ⌜ TextAnswer (now (sheet .entry)) (now (out .entry)) (now (out .exit)) r ⌝ }
+{
+    text::print_answer(sheet, out)
+}
+
+pub fn analyse_table(cores: u32, table: Table) -> Analysis
+    ensures { λ r. ⌜ AnalysisAnswer cores table r ⌝ }
+{
+    analysis::analyse(cores, table)
+}
+
+pub fn check_table(cores: u32, table: Table) -> Checked
+    ensures { λ r. ⌜ TableAnswer cores table r ⌝ }
+{
+    table.check(cores)
+}
+
+pub fn open_bench(cores: u32, table: Table) -> Opening
+    ensures { λ r. ⌜ OpeningAnswer cores table r ⌝ }
+{
+    Bench::opened(cores, table)
+}
+
+pub fn release_poll(b: Bench, place: usize, demand: Ticks) -> Released
+    ensures { λ r. ⌜ ReleaseAnswer b place (demand .0) r ⌝ }
+{
+    b.release(place, demand)
+}
+
+pub fn tick_bench(b: Bench) -> Ticked
+    ensures { λ r. ⌜ TickAnswer b r ⌝ }
+{
+    b.tick()
+}
+
+pub fn replay_calls(cores: u32, table: Table, calls: &[u8], out: &mut [u8]) -> Replayed
+    ensures { λ r. ⌜ ReplayAnswer cores table (now (calls .entry)) (now (out .entry)) (now (out .exit)) r ⌝ }
+{
+    replay::replay(cores, table, calls, out)
+}
+
+pub fn analyse_for_c(cores: u32, rows: &[[u64; 3]], bounds: &mut [u64]) -> u64
+    ensures { λ r. ⌜ AnswerForC cores (rowsFrom (now (rows .entry)))
+        (now (bounds .entry)) (now (bounds .exit)) r ⌝ }
+{
+    exports::dipperslate_analyse(cores, rows, bounds)
+}
+
+pub fn no_rows() -> Table
+    ensures { λ r. ⌜ NoRows r ⌝ }
+{
+    Table::empty()
+}
+
+pub fn add_row(table: Table, row: Row) -> Table
+    ensures { λ r. ⌜ OneRowMore table row r ⌝ }
+{
+    table.with_row(row)
+}
+
+pub fn answer_request(b: Bench, request: Request) -> Ticked
+    ensures { λ r. ⌜ RequestAnswer b request r ⌝ }
+{
+    b.answer(request)
+}
+
+pub fn judge_release(b: Bench, place: usize, demand: Ticks) -> bench::Outcome
+    ensures { λ r. ⌜ OutcomeBy (releaseOrder b place (demand .0)) r ⌝ }
+{
+    b.judge_release(place, demand)
+}
+
+pub fn judge_tick(b: Bench) -> bench::Outcome
+    ensures { λ r. ⌜ OutcomeBy (tickOrder b) r ⌝ }
+{
+    b.judge_tick()
+}
+
+pub fn is_broken(b: Bench) -> bool
+    ensures { λ r. ⌜ BrokenAnswer b r ⌝ }
+{
+    b.broken()
+}
+
+pub fn row_capacity() -> usize
+    ensures { λ r. ⌜ r ≡ 32 ⌝ }
+{
+    Table::row_capacity()
+}
+
+pub fn core_limit() -> u32
+    ensures { λ r. ⌜ r ≡ 16 ⌝ }
+{
+    Table::core_limit()
+}
+
+pub fn largest_gap() -> Ticks
+    ensures { λ r. ⌜ r .0 ≡ 1000000 ⌝ }
+{
+    Table::largest_gap()
+}
+
+pub fn last_instant() -> Instant
+    ensures { λ r. ⌜ r .0 ≡ 1000000000 ⌝ }
+{
+    Bench::last_instant()
+}
