@@ -4,20 +4,27 @@ use native.Mathlib.Omega.{arith}
 use native.Mathlib.Decide.{decLe}
 use mathlib.Core.Path.{_≡_, refl, sym, ap, subst, _∙_}
 use mathlib.Core.Bool.{Bool}
-use mathlib.Core.List.{List, []}
+use mathlib.Core.List.{List, [], _++_}
 use mathlib.Core.Option.{Option, none, some}
 use lib.ListN.{length, drop}
 use Rattle.quantities.specs.declared.Row.{Row}
 use Rattle.quantities.specs.declared.Table.{Table}
 use Rattle.quantities.specs.declared.Checked.{Checked}
 use Rattle.quantities.specs.Table.{rowsOf, emptyTable, withRow}
-use Rattle.quantities.specs.Checks.{listFault, checkedOf}
-use Rattle.windows.specs.Answer.{judged, judgedInto, paperOf}
+use Rattle.quantities.specs.Checks.{listChecks, roomChecks, listFault, lentFault, checkedOf}
+use Rattle.quantities.proofs.Sound.{sound-list-means}
+use Rattle.windows.specs.Answer.{Judged, judged, judgedInto, paperOf}
+use Rattle.windows.proofs.Into.{into-refused, into-room}
+use Rattle.records.specs.declared.Record.{Record}
+use Rattle.records.specs.declared.Record.the-variants.{Missing, Unknown, Cut, Board, Row as RowOf, End}
+use Rattle.records.specs.Records.{recordLength, recordOn, kindOf, sizeOf, isEnd}
 use Rattle.sheet.specs.Reader.{readOf}
 use Rattle.sheet.specs.declared.Outcome.{Outcome}
 use Rattle.text.specs.Printed.{Printed}
 use Rattle.analysis.specs.Analysis.{numbers, analysisOf}
 use Rattle.analysis.specs.declared.Analysis.{Analysis}
+use Rattle.lentrows.specs.declared.Told.{Told}
+use Rattle.lentrows.specs.Lent.{toldOf}
 use Rattle.exports.specs.Exported.{rowsFrom, Exported}
 use Rattle.bench.specs.declared.Bench.{Bench}
 use Rattle.bench.specs.declared.Finish.{Finish}
@@ -36,13 +43,15 @@ use Rattle.bench.specs.History.{releases, ticks, doCall, callOf}
 use Rattle.bench.proofs.Steps.{release-taken, release-refused}
 use Rattle.replay.specs.declared.Replayed.{Replayed}
 use Rattle.replay.specs.Replay.{Replay, replay}
+use Rattle.promises.specs.Lists.{faultAt}
 use Rattle.promises.specs.Lent.{InEntries}
 use Rattle.promises.specs.Calls.{releaseOrder, tickOrder, ListsPolls}
 use Rattle.promises.proofs.Sheets.{sheets-read, sheet-turned-away}
 use Rattle.promises.proofs.Tool.{goes-the-whole-way, text-at-the-front}
-use Rattle.promises.proofs.Lists.{faulty-list-turned-away}
+use Rattle.promises.proofs.Lists.{lent-order, fault-of-first, sound-in-range, faulty-list-turned-away}
 use Rattle.promises.proofs.Windows.{judged-right}
-use Rattle.promises.proofs.Lent.{by-value, lent-turned-away, lent-judged, callers-in-c}
+use Rattle.promises.proofs.SheetRecords.{records-come-back, parts-told}
+use Rattle.promises.proofs.Lent.{by-value, told-for, lent-turned-away, lent-judged, callers-in-c}
 use Rattle.promises.proofs.Tables.{table-made, table-checked}
 use Rattle.promises.proofs.Broken.{broken-exactly}
 use Rattle.promises.proofs.Calls.{call-turned-away, call-taken, gives-29}
@@ -50,6 +59,7 @@ use Rattle.promises.proofs.Openings.{opening-refused, opening-taken, ended-list
 use Rattle.promises.proofs.Moves.{release-starts, tick-serves}
 use Rattle.promises.proofs.CallBytes.{replay-answered, replay-no-room, replay-not-opened}
 use Rattle.promised.specs.Promised.{SheetAnswer, TextAnswer, AnalysisAnswer, TableAnswer}
+use Rattle.promised.specs.Promised.{RecordAnswer, sizeIs, EndAnswer, ToldAnswer}
 use Rattle.promised.specs.Promised.{NoRows, OneRowMore, OpeningAnswer, ReleaseAnswer, TickAnswer}
 use Rattle.promised.specs.Promised.{BrokenAnswer, RequestAnswer, OutcomeBy, ReplayAnswer, AnswerForC}
 
@@ -106,7 +116,47 @@ no-rows-yet r is = rw is (table-made .empty)
 pub one-row-more : (table : Table) (row : Row) (r : Table) → length (table .rows) ≡ 32 → r ≡ withRow table row
     → OneRowMore table row r
 one-row-more table row r many is =
-    rw is (record { below = table-made .one-more table row many; full = table-made .full table row })
+    rw is
+    (record {
+      below = table-made .one-more table row many;
+      full = table-made .full table row;
+      keeps = table-made .full-keeps table row;
+    })
+
+pub record-answer : (part : List ℕ) (r : Record) → r ≡ recordOn part → RecordAnswer part r
+record-answer part r is =
+    record {
+      no-byte = λ e. is ∙ ap recordOn e ∙ parts-told .no-byte;
+      unknown = λ kind rest e one two three. is ∙ ap recordOn e ∙ parts-told .unknown kind rest one two three;
+      cut-board = λ rest e short. is ∙ ap recordOn e ∙ parts-told .cut-board rest short;
+      cut-row = λ rest e short. is ∙ ap recordOn e ∙ parts-told .cut-row rest short;
+      cut-end = λ e. is ∙ ap recordOn e ∙ parts-told .cut-end;
+      board = λ cores tick rest fits e. is ∙ ap recordOn e ∙ records-come-back .board cores tick rest fits .1;
+      row = λ label priority c d t rest fits e.
+          is ∙ ap recordOn e ∙ records-come-back .row label priority c d t rest fits .1;
+      end = λ count rest fits e. is ∙ ap recordOn e ∙ records-come-back .end count rest fits .1;
+    }
+
+pub size-answer : (found : Record) (r : ℕ) → r ≡ sizeOf found → r ≡ sizeIs found
+unfolding recordLength kindOf
+size-answer Missing r is = is
+size-answer Unknown r is = is
+size-answer (Cut kind) r is = is
+size-answer (Board cores tick) r is = is
+size-answer (RowOf fields) r is = is
+size-answer (End count) r is = is
+
+end-answer-of : (found : Record) → EndAnswer found (isEnd found)
+unfolding isEnd
+end-answer-of Missing = ((λ e. let z : _≡_ {A = ℕ} 0 1 = cc in absurd (omega arith)), λ (c, e). cc)
+end-answer-of Unknown = ((λ e. let z : _≡_ {A = ℕ} 0 1 = cc in absurd (omega arith)), λ (c, e). cc)
+end-answer-of (Cut kind) = ((λ e. let z : _≡_ {A = ℕ} 0 1 = cc in absurd (omega arith)), λ (c, e). cc)
+end-answer-of (Board cores tick) = ((λ e. let z : _≡_ {A = ℕ} 0 1 = cc in absurd (omega arith)), λ (c, e). cc)
+end-answer-of (RowOf fields) = ((λ e. let z : _≡_ {A = ℕ} 0 1 = cc in absurd (omega arith)), λ (c, e). cc)
+end-answer-of (End count) = ((λ e. (count, refl)), λ e. refl)
+
+pub end-answer : (found : Record) (r : Bool) → r ≡ isEnd found → EndAnswer found r
+end-answer found r is = rw is (end-answer-of found)
 
 pub opening-answer : (cores : ℕ) (table : Table) (r : Opening) → r ≡ openingOf cores table
     → OpeningAnswer cores table r
@@ -119,6 +169,7 @@ opening-answer cores table r is =
           record {
             found = refused .found;
             on-paper = refused .on-paper;
+            blank = refused .stands-for-none;
             no-bench = rw (refused .stands-for-none) (gives-29 _ ticks .0 (refused .no-call ticks .on-paper));
           };
     })
@@ -244,3 +295,31 @@ answer-for-c cores triples before after code exported =
           let turned = lent-turned-away cores rows before after (to-c .answer) one (to-c .given) first in
           (to-c .coded ∙ rw (turned .on-paper) refl, turned .same-list);
     }
+
+-- what is told of a table, from what is told of every list
+pub told-answer : (cores : ℕ) (table : Table) (room : ℕ) (r : Told)
+    → r ≡ toldOf (judgedInto cores room (rowsOf table)) → ToldAnswer cores table room r
+unfolding toldOf lentFault
+told-answer cores table room r is =
+    let rows = rowsOf table in
+    let told = told-for cores room rows in
+    rw is
+    (record {
+      judges = λ range fits.
+          let sound = sound-list-means cores rows .1 (sound-in-range cores rows range) in
+          record {
+            bounds = judgedInto cores room rows .bounds;
+            right = rw (into-room cores room rows sound fits) (judged-right cores rows range);
+            entries = told .bounds;
+            shown = refl;
+          };
+      faulty = λ one first.
+          let checks = rw (lent-order cores room rows) at first in
+          let found = fault-of-first (listChecks cores rows ++ roomChecks room rows) one checks in
+          let refused = into-refused cores room rows (faultAt (one .number) (one .place)) found in (
+            ap (λ (j : Judged). j .answer) refused,
+            subst (λ (bounds : List ℕ). InEntries bounds (numbers (toldOf (judgedInto cores room rows) .bounds)))
+                (ap (λ (j : Judged). j .bounds) refused) (told .bounds),
+            ap (λ (j : Judged). length (j .bounds)) refused,
+          );
+    })

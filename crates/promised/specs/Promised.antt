@@ -2,10 +2,14 @@
 use Prim.Native.Nat.{ℕ, suc, _+_, _*_, _≤_, _<_}
 use mathlib.Core.Path.{_≡_}
 use mathlib.Core.Logic.{_↔_}
-use mathlib.Core.Bool.{Bool, true, false}
-use mathlib.Core.List.{List, [], _∷_, _++_}
-use lib.ListN.{length, take, drop}
+use mathlib.Core.Bool.{Bool, true, false, cond}
+use mathlib.Core.List.{List, [], _∷_, _++_, map}
+use lib.Dec.{eqb}
+use lib.ListN.{length, take, drop, replicate}
 use Rattle.laws.specs.Each.{Each}
+use Rattle.laws.specs.Member.{Member}
+use Rattle.laws.specs.Permuted.{Permuted}
+use Rattle.quantities.specs.declared.Micros.{Micros}
 use Rattle.quantities.specs.declared.Row.{Row}
 use Rattle.quantities.specs.declared.Table.{Table}
 use Rattle.quantities.specs.declared.Checked.{Checked}
@@ -15,10 +19,15 @@ use Rattle.quantities.specs.Paper.{paper, paperOf as checkedPaper}
 use Rattle.quantities.specs.Checks.{Check, FirstFailing}
 use Rattle.windows.specs.declared.Answer.{Answer}
 use Rattle.windows.specs.declared.Answer.the-variants.{Shown, NotShown, Refused}
+use Rattle.records.specs.declared.Record.{Record}
+use Rattle.records.specs.declared.Record.the-variants.{Missing, Unknown, Cut, Board, Row as RowOf, End}
+use Rattle.sheet.specs.declared.Entry.{Entry}
+use Rattle.sheet.specs.declared.Sheet.{Sheet}
 use Rattle.sheet.specs.declared.Verdict.the-variants.{Sound as SoundSheet}
 use Rattle.sheet.specs.declared.Outcome.{Outcome}
 use Rattle.analysis.specs.Analysis.{numbers}
 use Rattle.analysis.specs.declared.Analysis.{Analysis}
+use Rattle.lentrows.specs.declared.Told.{Told}
 use Rattle.bench.specs.declared.Bench.{Bench}
 use Rattle.bench.specs.declared.Finish.{Finish}
 use Rattle.bench.specs.declared.Request.{Request}
@@ -32,12 +41,13 @@ use Rattle.bench.specs.Refusal.{paperOf}
 use Rattle.replay.specs.declared.Replayed.{Replayed}
 use Rattle.replay.specs.declared.Replayed.the-variants.{NotOpened, NoRoom}
 use Rattle.replay.specs.Replay.{requestsIn}
-use Rattle.promises.specs.Sheets.{WholeWith, FirstFault, SheetRead, TurnedAway}
+use Rattle.promises.specs.Sheets.{blankEntry, RisingPriority, WholeWith, FirstFault, SheetRead, TurnedAway}
+use Rattle.promises.specs.SheetRecords.{BoardFits, RowFits, boardBytes, rowBytes, endBytes}
 use Rattle.promises.specs.Tool.{refusedText, WholeWay}
 use Rattle.promises.specs.Lists.{listOrder, lentOrder, faultAt, ListInRange}
 use Rattle.promises.specs.Windows.{JudgedBy}
-use Rattle.promises.specs.Lent.{InEntries, LeftAlone, LentJudgement}
-use Rattle.promises.specs.Calls.{releaseOrder, tickOrder, newBench, RecordBroken, ListsPolls}
+use Rattle.promises.specs.Lent.{InEntries, LentJudgement}
+use Rattle.promises.specs.Calls.{releaseOrder, tickOrder, newBench, blankBench, RecordBroken, ListsPolls}
 use Rattle.promises.specs.Moves.{PollStarted, Ticked}
 use Rattle.promises.specs.CallBytes.{answersTo, ReplayAnswers}
 
@@ -83,11 +93,83 @@ NoRows r = rowsOf r ≡ []
 pub record OneRowMore (table : Table) (row : Row) (r : Table) : Type 0 where
   pub below : table .count < 32 → rowsOf r ≡ rowsOf table ++ (row ∷ [])
   pub full : 32 ≤ table .count → length (rowsOf r) ≡ 33
+  pub keeps : 32 ≤ table .count → r .rows ≡ table .rows
+
+-- The entries of a sheet: the first ones, as many as it counts.
+abbrev pub entriesIn : Sheet → List Entry
+entriesIn sheet = take (sheet .count) (sheet .entries)
+
+-- `Sheet::of_board`: a board with no row yet.
+abbrev pub NoEntries : (cores : ℕ) → Micros → (r : Sheet) → Type 0
+NoEntries cores tick r = r ≡ record { cores = cores; tick = tick; count = 0; entries = replicate 32 blankEntry }
+
+-- `Sheet::is_used`: whether one of the entries has this priority.
+pub record Uses (sheet : Sheet) (priority : ℕ) : Type 0 where
+  pub one : Entry
+  pub stands : Member one (entriesIn sheet)
+  pub has : one .priority ≡ priority
+
+abbrev pub UsedAnswer : Sheet → (priority : ℕ) → Bool → Type 0
+UsedAnswer sheet priority r = (r ≡ true) ↔ Uses sheet priority
+
+-- `Sheet::with_entry`: one entry more; where they stood in rising priority and none has the new one's, they
+-- do again. A full sheet stays as it is.
+pub record OneEntryMore (sheet : Sheet) (new : Entry) (r : Sheet) : Type 0 where
+  pub count : r .count ≡ sheet .count + 1
+  pub together : Permuted (new ∷ entriesIn sheet) (entriesIn r)
+  pub rising : RisingPriority (entriesIn sheet) → (Uses sheet (new .priority) → ⊥) → RisingPriority (entriesIn r)
+  pub later : drop (sheet .count + 1) (r .entries) ≡ drop (sheet .count + 1) (sheet .entries)
+  pub board : (r .cores ≡ sheet .cores) × (r .tick ≡ sheet .tick)
+
+pub record EntryAnswer (sheet : Sheet) (new : Entry) (r : Sheet) : Type 0 where
+  pub room : sheet .count < 32 → OneEntryMore sheet new r
+  pub full : 32 ≤ sheet .count → r ≡ sheet
+
+-- `Sheet::table`: the rows of the first entries, as many as the sheet counts, in their order.
+abbrev pub RowsOfEntries : Sheet → (r : Table) → Type 0
+RowsOfEntries sheet r = rowsOf r ≡ map (λ (entry : Entry). entry .row) (entriesIn sheet)
+
+-- `records::record_on`: what stands on a part of a sheet that begins where a record should.
+pub record RecordAnswer (part : List ℕ) (r : Record) : Type 0 where
+  pub no-byte : part ≡ [] → r ≡ Missing
+  pub unknown : (kind : ℕ) (rest : List ℕ) → part ≡ kind ∷ rest
+      → (kind ≡ 1 → ⊥) → (kind ≡ 2 → ⊥) → (kind ≡ 3 → ⊥) → r ≡ Unknown
+  pub cut-board : (rest : List ℕ) → part ≡ 1 ∷ rest → length rest < 3 → r ≡ Cut 1
+  pub cut-row : (rest : List ℕ) → part ≡ 2 ∷ rest → length rest < 16 → r ≡ Cut 2
+  pub cut-end : part ≡ 3 ∷ [] → r ≡ Cut 3
+  pub board : (cores tick : ℕ) (rest : List ℕ) → BoardFits cores tick → part ≡ boardBytes cores tick ++ rest
+      → r ≡ Board cores (record { 0 = tick })
+  pub row : (label priority c d t : ℕ) (rest : List ℕ) → RowFits label priority c d t
+      → part ≡ rowBytes label priority c d t ++ rest
+      → r
+      ≡ RowOf
+      (record {
+        label = label;
+        priority = priority;
+        c = record { 0 = c };
+        d = record { 0 = d };
+        t = record { 0 = t };
+      })
+  pub end : (count : ℕ) (rest : List ℕ) → count < 256 → part ≡ endBytes count ++ rest → r ≡ End count
+
+-- `records::size`: the bytes that a record takes, also where it is cut short; 0 where there is no kind.
+abbrev pub sizeIs : Record → ℕ
+sizeIs Missing = 0
+sizeIs Unknown = 0
+sizeIs (Cut kind) = cond (eqb kind 1) 4 (cond (eqb kind 2) 17 (cond (eqb kind 3) 2 0))
+sizeIs (Board cores tick) = 4
+sizeIs (RowOf fields) = 17
+sizeIs (End count) = 2
+
+-- `records::is_end`.
+abbrev pub EndAnswer : Record → Bool → Type 0
+EndAnswer found r = (r ≡ true) ↔ ((count : ℕ) × (found ≡ End count))
 
 -- A table with a fault gives no bench: what stands there is broken, so that each call on it gives 29.
 pub record NoBench (one : Check) (r : Opening) : Type 0 where
   pub found : r .found ≡ Faulty (faultAt (one .number) (one .place))
   pub on-paper : checkedPaper (r .found) ≡ paper (one .number) (one .place)
+  pub blank : r .bench ≡ blankBench
   pub no-bench : RecordBroken (r .bench)
 
 -- `Bench::opened`: a table in range is opened at instant 0, with no row released.
@@ -159,11 +241,22 @@ pub record ReplayAnswer (cores : ℕ) (table : Table) (calls before after : List
   pub not-opened : (one : Check) → FirstFailing (listOrder cores (rowsOf table)) one
       → (r ≡ NotOpened (faultAt (one .number) (one .place))) × (after ≡ before)
 
--- `analyse_list`: the caller's list is judged, or turned away by its first fault, 7 after the rows' checks.
-pub record LentAnswer (cores : ℕ) (rows : List Row) (before after : List ℕ) (r : Answer) : Type 0 where
-  pub judges : ListInRange cores rows → length rows ≤ length before → LentJudgement cores rows before after r
-  pub faulty : (one : Check) → FirstFailing (lentOrder cores (length before) rows) one
-      → LeftAlone one before after r
+-- The rows of a table in range are judged where the bounds list has an entry for each: what is told is the
+-- answer, its bounds in the first of 32 entries, and how many they are.
+pub record TableTold (cores : ℕ) (rows : List Row) (r : Told) : Type 0 where
+  pub bounds : List ℕ
+  pub right : JudgedBy cores rows (record { answer = r .answer; bounds = bounds })
+  pub entries : InEntries bounds (numbers (r .bounds))
+  pub shown : r .shown ≡ length bounds
+
+-- `lentrows::answer_for`: a table in range is told so, and one with a fault is turned away by its first one,
+-- 7 after the rows' checks, with no bound to write.
+pub record ToldAnswer (cores : ℕ) (table : Table) (room : ℕ) (r : Told) : Type 0 where
+  pub judges : ListInRange cores (rowsOf table) → length (rowsOf table) ≤ room → TableTold cores (rowsOf table) r
+  pub faulty : (one : Check) → FirstFailing (lentOrder cores room (rowsOf table)) one
+      → (r .answer ≡ Refused (faultAt (one .number) (one .place)))
+      × InEntries [] (numbers (r .bounds))
+      × (r .shown ≡ 0)
 
 -- A list in range is judged for a caller in C: 0 where every row is shown, or 8 times 2 to the 32nd plus the
 -- place of the first row not shown.

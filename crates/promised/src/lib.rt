@@ -6,19 +6,27 @@ use bench::Opening;
 use bench::Released;
 use bench::Request;
 use bench::Ticked;
+use lentrows::Told;
 use quantities::Checked;
 use quantities::Instant;
+use quantities::Micros;
 use quantities::Row;
 use quantities::Table;
 use quantities::Ticks;
+use records::Record;
 use replay::Replayed;
+use sheet::Entry;
 use sheet::Outcome;
+use sheet::Sheet;
 ghost use mathlib.Core.Path.{_≡_};
 ghost use Rattle.exports.specs.Exported.{rowsFrom};
 ghost use Rattle.promised.specs.Promised.{SheetAnswer, TextAnswer, AnalysisAnswer, TableAnswer};
 ghost use Rattle.promised.specs.Promised.{NoRows, OneRowMore, OpeningAnswer, ReleaseAnswer};
 ghost use Rattle.promised.specs.Promised.{BrokenAnswer, TickAnswer, RequestAnswer, OutcomeBy};
-ghost use Rattle.promised.specs.Promised.{ReplayAnswer, AnswerForC};
+ghost use Rattle.promised.specs.Promised.{ReplayAnswer, AnswerForC, ToldAnswer};
+ghost use Rattle.promised.specs.Promised.{RecordAnswer, sizeIs, EndAnswer, RowsOfEntries};
+ghost use Rattle.promised.specs.Promised.{NoEntries, UsedAnswer, EntryAnswer};
+ghost use Rattle.promises.specs.Windows.{interferes};
 ghost use Rattle.promises.specs.Calls.{releaseOrder, tickOrder};
 
 pub fn read_sheet(sheet: &[u8]) -> Outcome
@@ -112,6 +120,60 @@ pub fn is_broken(b: Bench) -> bool
     b.broken()
 }
 
+pub fn record_at(part: &[u8]) -> Record
+    ensures { λ r. ⌜ RecordAnswer (now (part .entry)) r ⌝ }
+{
+    records::record_on(part)
+}
+
+pub fn record_size(found: Record) -> usize
+    ensures { λ r. ⌜ r ≡ sizeIs found ⌝ }
+{
+    records::size(found)
+}
+
+pub fn is_end(found: Record) -> bool
+    ensures { λ r. ⌜ EndAnswer found r ⌝ }
+{
+    records::is_end(found)
+}
+
+pub fn board_sheet(cores: u32, tick: Micros) -> Sheet
+    ensures { λ r. ⌜ NoEntries cores tick r ⌝ }
+{
+    Sheet::of_board(cores, tick)
+}
+
+pub fn is_used(sheet: Sheet, priority: u32) -> bool
+    ensures { λ r. ⌜ UsedAnswer sheet priority r ⌝ }
+{
+    sheet.is_used(priority)
+}
+
+pub fn add_entry(sheet: Sheet, new: Entry) -> Sheet
+    ensures { λ r. ⌜ EntryAnswer sheet new r ⌝ }
+{
+    sheet.with_entry(new)
+}
+
+pub fn table_of(sheet: Sheet) -> Table
+    ensures { λ r. ⌜ RowsOfEntries sheet r ⌝ }
+{
+    sheet.table()
+}
+
+pub fn interfere(own: Ticks, window: Ticks, work: Ticks) -> Ticks
+    ensures { λ r. ⌜ r .0 ≡ interferes (own .0) (window .0) (work .0) ⌝ }
+{
+    windows::interference(own, window, work)
+}
+
+pub fn tell_table(cores: u32, table: Table, entries: usize) -> Told
+    ensures { λ r. ⌜ ToldAnswer cores table entries r ⌝ }
+{
+    lentrows::answer_for(cores, table, entries)
+}
+
 pub fn row_capacity() -> usize
     ensures { λ r. ⌜ r ≡ 32 ⌝ }
 {
@@ -134,4 +196,35 @@ pub fn last_instant() -> Instant
     ensures { λ r. ⌜ r .0 ≡ 1000000000 ⌝ }
 {
     Bench::last_instant()
+}
+
+// The named constants themselves.
+pub fn named_row_capacity() -> usize
+    ensures { λ r. ⌜ r ≡ 32 ⌝ }
+{
+    Table::ROW_CAPACITY
+}
+
+pub fn named_core_limit() -> u32
+    ensures { λ r. ⌜ r ≡ 16 ⌝ }
+{
+    Table::CORE_LIMIT
+}
+
+pub fn named_largest_gap() -> u64
+    ensures { λ r. ⌜ r ≡ 1000000 ⌝ }
+{
+    Table::LARGEST_GAP
+}
+
+pub fn named_last_instant() -> u64
+    ensures { λ r. ⌜ r ≡ 1000000000 ⌝ }
+{
+    Bench::LAST_INSTANT
+}
+
+pub fn named_text_room() -> usize
+    ensures { λ r. ⌜ r ≡ 2856 ⌝ }
+{
+    text::TEXT_ROOM
 }

@@ -38,12 +38,8 @@ use Rattle.promises.specs.Fakes.{
   KeepsSheetOrder,
   judgesInOrder,
   AsTheRecordsStand,
-  FakeTicksCaught,
   FakesCaught,
 }
-use Rattle.bench.specs.Fakes.{once, inventing}
-use Rattle.bench.proofs.Fakes.{fake-ticks-caught as by-rule}
-use Rattle.promises.proofs.Moves.{keeps-the-rule}
 use Rattle.promises.proofs.Windows.{judged-right, one-judgement-by-rules}
 use Rattle.promises.proofs.Tool.{one-text-printed, output-of-document}
 
@@ -180,9 +176,3 @@ module _ (read : Reader) (judge : Judge) (lend : Lending) (tool : Tool) where
         keeps-order = keeps-order;
         joins-wrongly = joins-wrongly;
       }
-
-pub fake-ticks-caught : FakeTicksCaught
-fake-ticks-caught = (
-  λ serves. by-rule .0 (keeps-the-rule once serves),
-  λ serves. by-rule .1 (keeps-the-rule inventing serves),
-)

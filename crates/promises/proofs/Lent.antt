@@ -1,19 +1,23 @@
 -- The lent analysis answers, and leaves the lent list, as specs/Lent.antt says.
 use Prim.Native.Nat.{ℕ, zero, suc, _-_, _≤_}
 use native.Mathlib.Omega.{arith}
+use native.Mathlib.Decide.{decLe}
 use mathlib.Core.Path.{_≡_, refl, sym, ap, _∙_}
 use mathlib.Core.Option.{Option, none, some}
 use mathlib.Core.List.{List, _++_}
-use lib.ListN.{length, drop, replicate, length-map, length-append, length-drop, length-replicate}
+use lib.ListN.{length, drop, replicate, length-map, length-append, length-drop, length-replicate, take-append-drop}
 use lib.Seq.{take-append-seam, drop-append-seam}
 use Rattle.laws.specs.Each.{Each}
 use Rattle.quantities.specs.declared.Row.{Row}
 use Rattle.quantities.specs.declared.Fault.{Fault}
+use Rattle.quantities.specs.declared.Fault.the-variants.{WholeList}
 use Rattle.quantities.specs.declared.Ticks.{Ticks}
 use Rattle.quantities.specs.Limits.{rowCapacity}
-use Rattle.quantities.specs.Checks.{listChecks, roomChecks, listFault, lentFault}
+use Rattle.quantities.specs.Checks.{FirstFailing, listChecks, roomChecks, listFault, lentFault}
+use Rattle.quantities.proofs.Checks.{lent-fault-list, lent-fault-short}
 use Rattle.quantities.proofs.Paper.{fault-first}
 use Rattle.quantities.proofs.Sound.{sound-list-means}
+use Rattle.windows.specs.declared.Answer.{Answer}
 use Rattle.windows.specs.Answer.{Judged, judged, judgedInto, written, paperOf}
 use Rattle.windows.proofs.Into.{into-refused, into-room, refused-fault, few-bounds}
 use Rattle.analysis.specs.Analysis.{numbers, inArray, analysisOf}
@@ -21,14 +25,17 @@ use Rattle.windows.proofs.Judgement.{judged-faulty}
 use Rattle.lentrows.specs.Lent.{toldOf}
 use Rattle.lentrows.proofs.Lent.{bounds-fit}
 use Rattle.lines.proofs.Lines.{numbers-in-array}
-use Rattle.promises.specs.Lists.{faultAt}
+use Rattle.promises.specs.Lists.{lentOrder, faultAt, ListInRange}
 use Rattle.promises.specs.Lent.{
   lent,
   OfLengths,
   LentAnswered,
   LentTurnedAway,
   RefusedLentHasFault,
+  LentJudgement,
   LentJudged,
+  LentOutcome,
+  OneLent,
   InEntries,
   ByValue,
   ToldFor,
@@ -36,8 +43,8 @@ use Rattle.promises.specs.Lent.{
   TriplesInOrder,
   CallersInC,
 }
-use Rattle.promises.proofs.Lists.{lent-order, fault-of-first, turned-by, sound-in-range}
-use Rattle.promises.proofs.Windows.{judged-right}
+use Rattle.promises.proofs.Lists.{lent-order, fault-of-first, turned-by, sound-in-range, in-range-sound}
+use Rattle.promises.proofs.Windows.{judged-right, one-judgement-by-rules}
 
 pub lent-answered : LentAnswered lent
 lent-answered cores rows before =
@@ -92,6 +99,50 @@ lent-judged cores rows before after answer given range room =
           rw leaves
           (length-append (j .bounds) (drop n before) ∙ omega (arith, length-drop n before, few-bounds cores rows sound));
     }
+
+-- Two outcomes by the rules are equal.
+module _ (cores : ℕ) (rows : List Row) (before after after′ : List ℕ) (answer answer′ : Answer)
+    (by-rules : LentOutcome cores rows before after answer)
+    (by-rules′ : LentOutcome cores rows before after′ answer′) where
+  one-turned : (fault : Fault) → lentFault cores (length before) rows ≡ some fault
+      → (after ≡ after′) × (answer ≡ answer′)
+  unfolding lentFault
+  one-turned fault found =
+      let first = fault-first (listChecks cores rows ++ roomChecks (length before) rows) fault found in
+      let failing : FirstFailing (lentOrder cores (length before) rows) (first .one)
+      = rw (lent-order cores (length before) rows) (first .first) in
+      let turned = by-rules .faulty (first .one) failing in
+      let turned′ = by-rules′ .faulty (first .one) failing in
+      (turned .same-list ∙ sym (turned′ .same-list), turned .answers ∙ sym (turned′ .answers))
+
+  -- the first entries are the bounds, and the later ones are as they were
+  left-with : (list : List ℕ) (one : Answer) (j : LentJudgement cores rows before list one)
+      → list ≡ j .bounds ++ drop (length (j .bounds)) before
+  left-with list one j =
+      sym (take-append-drop (length (j .bounds)) list) ∙ rw (j .first, j .later) refl
+
+  one-judged : ListInRange cores rows → length rows ≤ length before → (after ≡ after′) × (answer ≡ answer′)
+  one-judged range room =
+      let j = by-rules .judges range room in
+      let k = by-rules′ .judges range room in
+      let same = one-judgement-by-rules cores rows _ _ (j .right) (k .right) in
+      let bounds : j .bounds ≡ k .bounds = ap (λ (one : Judged). one .bounds) same in (
+        left-with after answer j
+            ∙ ap (λ (xs : List ℕ). xs ++ drop (length xs) before) bounds
+            ∙ sym (left-with after′ answer′ k),
+        ap (λ (one : Judged). one .answer) same,
+      )
+
+  one-outcome : (found : Option Fault) → listFault cores rows ≡ found → Dec (length rows ≤ length before)
+      → (after ≡ after′) × (answer ≡ answer′)
+  one-outcome (some fault) q room = one-turned fault (lent-fault-list cores (length before) rows fault q)
+  one-outcome none q (no short) = one-turned (WholeList 7) (lent-fault-short cores (length before) rows q (omega arith))
+  one-outcome none q (yes room) = one-judged (in-range-sound cores rows (sound-list-means cores rows .0 q)) room
+
+pub one-lent : OneLent
+one-lent cores rows before after after′ answer answer′ by-rules by-rules′ =
+    one-outcome cores rows before after after′ answer answer′ by-rules by-rules′
+    (listFault cores rows) refl (decLe (length rows) (length before))
 
 -- repeated entries are each the one repeated
 each-blank : (n : ℕ) → Each (λ (entry : ℕ). entry ≡ 0) (replicate n 0)

@@ -63,7 +63,7 @@ lent-runs-history b calls end heard =
     (lent-run, λ run. rw (run .ends, run .hears) (lent-history calls b))
 
 -- a last release that came less than the bound ago
-less-ago : (b : Bench) (place bound : ℕ) (last : Last) → stateOn b place .last ≡ last
+pub less-ago : (b : Bench) (place bound : ℕ) (last : Last) → stateOn b place .last ≡ last
     → LessAgo (b .now .0) bound last → ReleasedWithin bound b place
 less-ago b place bound Never is ago = absurd ago
 less-ago b place bound (At at) is ago = record { release = at; last-release = is; less-ago = ago }

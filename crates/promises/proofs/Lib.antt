@@ -1,5 +1,6 @@
 -- The proofs of the three demands, of the pages that they stand on, of the fakes, and of the starred numbers.
 pub mod Words
+pub mod Quantities
 pub mod Lists
 pub mod Tables
 pub mod SheetsChecks
@@ -24,4 +25,5 @@ pub mod Polls
 pub mod LentPolls
 pub mod Promises
 pub mod Fakes
+pub mod FakeTicks
 pub mod Starred

@@ -9,18 +9,21 @@ use Rattle.laws.specs.Each.{Each}
 use Rattle.laws.proofs.Lists.{each-map}
 use Rattle.quantities.proofs.Sound.{none-fails, none-found}
 use Rattle.bench.specs.declared.Bench.{Bench}
+use Rattle.bench.specs.declared.Last.{Last}
+use Rattle.bench.specs.declared.Last.the-variants.{At}
 use Rattle.bench.specs.declared.RowState.{RowState}
 use Rattle.bench.specs.declared.Finish.{Finish}
 use Rattle.bench.specs.Record.{idle, work}
 use Rattle.bench.specs.Serving.{workers, less, total}
-use Rattle.bench.specs.Step.{Step, tick}
+use Rattle.bench.specs.Step.{Step, fresh, tick}
 use Rattle.bench.specs.History.{Call, releases, ticks}
-use Rattle.bench.specs.Rules.{callChecks, PermittedCall, TicksByRule}
+use Rattle.bench.specs.Rules.{callChecks, PermittedCall, ReleaseRule, TicksByRule}
 use Rattle.bench.specs.TickRule.{Gets, PollEnds, Rising}
 use Rattle.bench.proofs.Rules.{tick-checks, releases-by-rule, ticks-by-rule}
-use Rattle.bench.proofs.OneStep.{one-tick}
+use Rattle.bench.proofs.OneStep.{one-release, one-tick}
 use Rattle.promises.specs.Calls.{rowsOn, stateOn, callOrder}
-use Rattle.promises.specs.Moves.{ReleaseStarts, working, remaining, IsServed, OneUnit, Finishing, RisingPlace, TickServes, NoOtherTick}
+use Rattle.promises.specs.Moves.{PollStarted, ReleaseStarts, NoOtherRelease, working, remaining}
+use Rattle.promises.specs.Moves.{IsServed, OneUnit, Finishing, RisingPlace, TickServes, NoOtherTick}
 use Rattle.promises.proofs.Calls.{first-of-call}
 
 -- A call that fails no check of the page is permitted.
@@ -41,6 +44,34 @@ release-starts b place demand room passed =
       board = record { cores = rule .board .0; table = rule .board .1; states = rule .as-many };
       none-end = rule .none-end;
     }
+
+-- what a poll's row holds, said of its parts
+state-is : (state : RowState) (now demand : ℕ) → state .last ≡ At (record { 0 = now }) → state .demand .0 ≡ demand
+    → state .left .0 ≡ demand → state ≡ fresh now demand
+state-is state now demand last released remains =
+    ap (λ (l : Last). record { last = l; demand = state .demand; left = state .left }) last
+    ∙ ap (λ (n : ℕ). record { last = At (record { 0 = now }); demand = record { 0 = n }; left = state .left }) released
+    ∙ ap (λ (n : ℕ). record { last = At (record { 0 = now }); demand = record { 0 = demand }; left = record { 0 = n } }) remains
+
+started-by-rule : (b : Bench) (place demand : ℕ) (step : Step) → PollStarted b place demand step
+    → ReleaseRule b place demand step
+started-by-rule b place demand step starts =
+    record {
+      outcome = starts .outcome;
+      poll-starts =
+          state-is (stateOn (step .bench) place) (b .now .0) demand (starts .last) (starts .released)
+          (starts .remains);
+      others = starts .others;
+      as-many = starts .board .states;
+      clock = starts .clock;
+      board = (starts .board .cores, starts .board .table);
+      none-end = starts .none-end;
+    }
+
+pub no-other-release : NoOtherRelease
+no-other-release b place demand one other starts starts′ =
+    one-release b place demand one other (started-by-rule b place demand one starts)
+    (started-by-rule b place demand other starts′)
 
 -- Counting down the places is counting down the states.
 one-more : (states : List RowState) (n : ℕ)

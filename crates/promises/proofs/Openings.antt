@@ -8,7 +8,7 @@ use lib.Dec.{eqb}
 use lib.ListN.{length, replicate, length-append, length-replicate}
 use lib.Seq.{take-append-seam, drop-append-seam}
 use borrow.Author.Tests.{eq-eqb, ne-eqb}
-use Rattle.quantities.specs.Table.{rowsOf}
+use Rattle.quantities.specs.Table.{rowsOf, emptyTable}
 use Rattle.quantities.specs.Checks.{check, listFault, listChecks, checkedOf}
 use Rattle.bench.specs.declared.Bench.{Bench}
 use Rattle.bench.specs.declared.Refusal.{Refusal}
@@ -25,7 +25,7 @@ use Rattle.bench.proofs.Open.{no-bench-broken}
 use Rattle.bench.proofs.Rules.{faulty-table-not-opened, sound-table-opened, opened-holds as kept-opening}
 use Rattle.replay.proofs.Turns.{polls-few}
 use Rattle.promises.specs.Lists.{faultAt}
-use Rattle.promises.specs.Calls.{Refuses, RefusalNumbers}
+use Rattle.promises.specs.Calls.{blankBench, Refuses, RefusalNumbers}
 use Rattle.promises.specs.Calls.{OpeningRefused, OpeningTaken, OpenedHolds, ClockTo1000000000}
 use Rattle.promises.specs.Calls.{ListsPolls, EndedListed, CallsAnswered}
 use Rattle.promises.proofs.Lists.{list-order, fault-of-first, sound-in-range, in-range-sound}
@@ -46,9 +46,13 @@ refusal-numbers =
       none-of-a-taken-call = refl;
     }
 
--- each call on what stands for a bench gives 29
-no-bench-29 : (call : Call) → Refuses noBench 29 0 (doCall noBench call)
-no-bench-29 call = is-29 noBench call (broken-breaks noBench no-bench-broken)
+-- what stands for a bench is blank, and each call on it gives 29
+no-bench-blank : noBench ≡ blankBench
+unfolding noBench emptyBench emptyTable
+no-bench-blank = refl
+
+blank-29 : (call : Call) → Refuses blankBench 29 0 (doCall blankBench call)
+blank-29 call = rw no-bench-blank at (is-29 noBench call (broken-breaks noBench no-bench-broken))
 
 pub opening-refused : OpeningRefused
 unfolding listFault openingOf checkedOf
@@ -60,9 +64,9 @@ opening-refused cores table one first =
     record {
       found = ap checkedOf fault;
       on-paper = refused .on-paper;
-      stands-for-none = refused .stands-for-none;
+      stands-for-none = refused .stands-for-none ∙ no-bench-blank;
       no-bench = refused .no-bench;
-      no-call = no-bench-29;
+      no-call = blank-29;
     }
 
 pub opening-taken : OpeningTaken

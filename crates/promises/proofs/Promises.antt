@@ -3,13 +3,14 @@ use Rattle.sheet.proofs.Readings.{read-to-means}
 use Rattle.running.proofs.Running.{bounds-hold}
 use Rattle.running.proofs.Replayed.{replay-in-time}
 use Rattle.promises.specs.Promises.{Demand1, Demand2, Demand3}
+use Rattle.promises.proofs.Quantities.{kept-apart}
 use Rattle.promises.proofs.Sheets.{sheet-either, sheet-taken, taken-sheet-is-whole, sheet-turned-away}
 use Rattle.promises.proofs.Sheets.{refused-sheet-has-fault, no-byte-at-the-end, whole-length, sheets-read, one-reading}
 use Rattle.promises.proofs.SheetRecords.{records-come-back, parts-told, priorities-to-999, row-records-to-32, thirty-two-taken}
 use Rattle.promises.proofs.Lists.{faulty-list-turned-away, refused-list-has-fault, taken-exactly}
 use Rattle.promises.proofs.Lists.{cores-to-16, rows-to-32, gaps-to-1000000}
 use Rattle.promises.proofs.Tables.{named-limits, table-made, table-checked}
-use Rattle.promises.proofs.Lent.{lent-answered, lent-turned-away, refused-lent-has-fault, lent-judged}
+use Rattle.promises.proofs.Lent.{lent-answered, lent-turned-away, refused-lent-has-fault, lent-judged, one-lent}
 use Rattle.promises.proofs.Lent.{of-lengths, by-value, told-for, triple-is-row, triples-in-order, callers-in-c}
 use Rattle.promises.proofs.Broken.{broken-exactly}
 use Rattle.promises.proofs.Calls.{gives-29, call-turned-away, call-taken, refused-call-has-fault}
@@ -18,7 +19,7 @@ use Rattle.promises.proofs.Openings.{opening-refused, opening-taken, op
 use Rattle.promises.proofs.Openings.{clock-to-1000000000, ended-listed, calls-answered}
 use Rattle.promises.proofs.CallBytes.{requests-read, requests-done, poll-comes-back, polls-fit-bytes, answer-comes-back}
 use Rattle.promises.proofs.CallBytes.{replay-answered, replay-no-room, replay-not-opened}
-use Rattle.promises.proofs.Moves.{release-starts, tick-serves, no-other-tick}
+use Rattle.promises.proofs.Moves.{release-starts, no-other-release, tick-serves, no-other-tick}
 use Rattle.promises.proofs.Windows.{judged-right, one-judgement-by-rules, largest-total, floor-form, formulas-answered}
 use Rattle.promises.proofs.Solution.{bounds-solve}
 use Rattle.promises.proofs.Patterns.{plain-is-largest, carry-is-largest, no-more-than-carry}
@@ -34,6 +35,7 @@ use Rattle.promises.proofs.Below.{answer-from-above, run-from-above}
 pub demand-1 : Demand1
 demand-1 =
     record {
+      kinds = kept-apart;
       sheets =
           record {
             either = sheet-either;
@@ -90,6 +92,7 @@ demand-1 =
             first-release = first-release-permitted;
             clock = clock-to-1000000000;
             releases = release-starts;
+            no-other-release = no-other-release;
             ticks = tick-serves;
             no-other-tick = no-other-tick;
             listed = ended-listed;
@@ -121,6 +124,7 @@ demand-2 =
           };
       one-reading = one-reading;
       one-judgement = one-judgement-by-rules;
+      one-lent = one-lent;
       one-text = one-text-printed;
       largest-total = largest-total;
       floor-form = floor-form;

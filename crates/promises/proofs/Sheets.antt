@@ -193,7 +193,7 @@ no-byte-at-the-end =
     }
 
 -- Entries that rise, in the words of the page and in the reader's own.
-rising-by-index : (entries : List Entry) → Rising entries → RisingPriority entries
+pub rising-by-index : (entries : List Entry) → Rising entries → RisingPriority entries
 rising-by-index [] r i j h l = absurd (omega arith)
 rising-by-index (x ∷ xs) r i zero h l = absurd (omega arith)
 rising-by-index (x ∷ xs) r zero (suc j) h l =
@@ -205,7 +205,7 @@ each-by-index : (P : Entry → Type 0) (entries : List Entry)
 each-by-index P [] f = tt
 each-by-index P (x ∷ xs) f = (f zero (omega arith), each-by-index P xs (λ j h. f (suc j) (omega arith)))
 
-index-rising : (entries : List Entry) → RisingPriority entries → Rising entries
+pub index-rising : (entries : List Entry) → RisingPriority entries → Rising entries
 index-rising [] r = tt
 index-rising (x ∷ xs) r = (
   each-by-index (λ y. x .priority < y .priority) xs (λ j h. r zero (suc j) (omega arith) (omega arith)),

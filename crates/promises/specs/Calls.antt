@@ -29,7 +29,7 @@ use Rattle.bench.specs.declared.Finishes.{Finishes}
 use Rattle.bench.specs.Record.{lastInstant, broken}
 use Rattle.bench.specs.Refusal.{refusalPaper, paperOf, firstRefusal, releaseTests, tickTests, outcomeOf}
 use Rattle.bench.specs.Ended.{finishesOf}
-use Rattle.bench.specs.Step.{Step, noBench, opened, openingOf, release, tick, releasedOf, tickedOf}
+use Rattle.bench.specs.Step.{Step, opened, openingOf, release, tick, releasedOf, tickedOf}
 use Rattle.bench.specs.History.{Call, releases, ticks, doCall, after}
 use Rattle.promises.specs.Lists.{listOrder, faultAt, ListInRange}
 
@@ -168,14 +168,18 @@ abbrev pub newBench : (cores : ℕ) → Table → Bench
 newBench cores table =
     record { cores = cores; table = table; now = record { 0 = 0 }; states = replicate 32 neverReleased }
 
+-- What stands where no bench is given: no cores, a table of no row, instant 0.
+abbrev pub blankBench : Bench
+blankBench = newBench 0 (record { count = 0; rows = replicate 32 (rowOf 0 0 0) })
+
 -- Opening a bench checks 1 to 6 in list order and gives no bench on refusal: each call on what stands there
 -- gives 29.
 pub record NotOpened (cores : ℕ) (table : Table) (one : Check) : Type 0 where
   pub found : openingOf cores table .found ≡ Faulty (faultAt (one .number) (one .place))
   pub on-paper : checkedPaper (openingOf cores table .found) ≡ paper (one .number) (one .place)
-  pub stands-for-none : openingOf cores table .bench ≡ noBench
+  pub stands-for-none : openingOf cores table .bench ≡ blankBench
   pub no-bench : opened cores table ≡ none
-  pub no-call : (call : Call) → Refuses noBench 29 0 (doCall noBench call)
+  pub no-call : (call : Call) → Refuses blankBench 29 0 (doCall blankBench call)
 
 abbrev pub OpeningRefused : Type 0
 OpeningRefused =

@@ -1,19 +1,30 @@
 -- The fakes that have to be caught: those of document 01, and a tool that judges rows out of order.
-use Prim.Native.Nat.{ℕ, _<_}
+use Prim.Native.Nat.{ℕ, _+_, _≤_, _<_}
 use mathlib.Core.Path.{_≡_}
-use mathlib.Core.List.{List, [], _∷_}
+use mathlib.Core.List.{List, [], _∷_, map}
+use mathlib.Core.Option.{some}
 use lib.ListN.{length, getD}
+use Rattle.laws.specs.Each.{Each}
 use Rattle.quantities.specs.declared.Row.{Row}
+use Rattle.quantities.specs.declared.Table.{Table}
 use Rattle.quantities.specs.Row.{rowOf, noRow}
 use Rattle.quantities.specs.Table.{rowsOf}
 use Rattle.windows.specs.declared.Answer.the-variants.{Shown}
 use Rattle.windows.specs.Answer.{judged, judgedInto}
-use Rattle.sheet.specs.Entries.{noEntry, entriesOf, tableOf}
+use Rattle.sheet.specs.Entries.{entriesOf, tableOf}
 use Rattle.sheet.specs.Reader.{readOf}
 use Rattle.sheet.specs.declared.Verdict.the-variants.{Sound, Refused}
 use Rattle.text.specs.Text.{judgedText}
-use Rattle.promises.specs.Sheets.{behind, WholeWith, RowRead}
+use Rattle.promises.specs.Sheets.{behind, blankEntry, WholeWith, RowRead}
+use Rattle.bench.specs.declared.Bench.{Bench}
+use Rattle.bench.specs.declared.Finish.{Finish}
+use Rattle.bench.specs.declared.Outcome.the-variants.{Taken}
+use Rattle.bench.specs.Step.{Step, opened, release, tick}
+use Rattle.bench.specs.History.{Call, releases, ticks}
 use Rattle.bench.specs.Fakes.{once, inventing}
+use Rattle.promises.specs.Calls.{stateOn}
+use Rattle.promises.specs.Polls.{boundsFor, boundFor}
+use Rattle.promises.specs.LentPolls.{ReleasedWithin}
 use Rattle.promises.specs.Lent.{Lending}
 use Rattle.promises.specs.Moves.{TickServes}
 use Rattle.promises.specs.Tool.{refusedText}
@@ -46,7 +57,7 @@ AnswersNoBounds judge = (cores : ℕ) (rows : List Row) → judge cores rows .bo
 abbrev pub KeepsSheetOrder : Reader → Type 0
 KeepsSheetOrder read =
     (sheet : List ℕ) (n : ℕ) → WholeWith sheet n → (i : ℕ) → i < n
-    → RowRead sheet (behind i) (getD (entriesOf (read sheet .sheet)) i noEntry)
+    → RowRead sheet (behind i) (getD (entriesOf (read sheet .sheet)) i blankEntry)
 
 -- a tool that reads rightly and judges rightly, but judges the rows in another order than it read and prints
 -- them
@@ -65,10 +76,63 @@ abbrev pub AsTheRecordsStand : (List Row → List Row) → Type 0
 AsTheRecordsStand order =
     order (rowOf 2 5 5 ∷ rowOf 3 8 8 ∷ rowOf 2 4 10 ∷ []) ≡ rowOf 2 5 5 ∷ rowOf 2 4 10 ∷ rowOf 3 8 8 ∷ []
 
--- A bench that serves rightly in its first tick and idles later, or one that invents response times: the tick
--- rule of page Moves holds for neither.
-abbrev pub FakeTicksCaught : Type 0
-FakeTicksCaught = (TickServes once → ⊥) × (TickServes inventing → ⊥)
+-- A bench that serves rightly in its first tick and idles later: the clock alone moves.
+pub record ServesOnce (run : Bench → Step) : Type 0 where
+  pub first-tick : (b : Bench) → b .now .0 ≡ 0 → run b ≡ tick b
+  pub later-ticks : (b : Bench) → 1 ≤ b .now .0
+      → run b
+      ≡ record {
+        outcome = Taken;
+        finishes = [];
+        bench = record {
+          cores = b .cores;
+          table = b .table;
+          now = record { 0 = b .now .0 + 1 };
+          states = b .states;
+        };
+      }
+
+-- One that invents response times: it ticks rightly, and each poll that it lists has the clock's reading for
+-- its response.
+pub record InventsResponses (run : Bench → Step) : Type 0 where
+  pub outcome : (b : Bench) → run b .outcome ≡ tick b .outcome
+  pub bench : (b : Bench) → run b .bench ≡ tick b .bench
+  pub places : (b : Bench)
+      → map (λ (poll : Finish). poll .place) (run b .finishes)
+      ≡ map (λ (poll : Finish). poll .place) (tick b .finishes)
+  pub responses : (b : Bench) → Each (λ (poll : Finish). poll .response .0 ≡ tick b .bench .now .0) (run b .finishes)
+
+-- The calls on a board with another tick, and the bench after a history of them.
+abbrev pub callWith : (Bench → Step) → Bench → Call → Step
+callWith run b (releases place demand) = release b place demand
+callWith run b ticks = run b
+
+abbrev pub afterWith : (Bench → Step) → Bench → List Call → Bench
+afterWith run b [] = b
+afterWith run b (call ∷ calls) = afterWith run (callWith run b call .bench) calls
+
+-- A bound is kept for the row at a place, on a bench and in the next call on it: the row has work only less
+-- than `bound` ticks after its release, and each poll of it that ends took at most `bound` ticks.
+pub record BoundKept (b : Bench) (step : Step) (place bound : ℕ) : Type 0 where
+  pub over-in-time : 0 < stateOn b place .left .0 → ReleasedWithin bound b place
+  pub ends-in-time : Each (λ (poll : Finish). poll .place ≡ place → poll .response .0 ≤ bound) (step .finishes)
+
+-- Demand 3 over a board with this tick: from an empty bench, over any sequence of calls.
+abbrev pub BoundsKeptWith : (Bench → Step) → Type 0
+BoundsKeptWith run =
+    (cores : ℕ) (table : Table) (start : Bench) → opened cores table ≡ some start
+    → (calls : List Call) (call : Call) (place : ℕ) → 1 ≤ place → place ≤ length (boundsFor cores table)
+    → BoundKept (afterWith run start calls) (callWith run (afterWith run start calls) call) place
+    (boundFor cores table place)
+
+-- Neither fake passes: the tick rule of page Moves holds for neither, nor does demand 3 over it, which holds
+-- for ours. (There are such benches.)
+pub record FakeTicksCaught : Type 0 where
+  pub serves-once : (run : Bench → Step) → ServesOnce run → (TickServes run → ⊥) × (BoundsKeptWith run → ⊥)
+  pub invents : (run : Bench → Step) → InventsResponses run → (TickServes run → ⊥) × (BoundsKeptWith run → ⊥)
+  pub one-serves-once : ServesOnce once
+  pub one-invents : InventsResponses inventing
+  pub ours-keeps : BoundsKeptWith tick
 
 -- Demand 2 holds of none of the others, whatever the rest of the tool is.
 module _ (read : Reader) (judge : Judge) (lend : Lending) (tool : Tool) where

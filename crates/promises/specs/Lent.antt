@@ -81,6 +81,20 @@ LentJudged lend =
     → lend cores rows before after answer → ListInRange cores rows → length rows ≤ length before
     → LentJudgement cores rows before after answer
 
+-- An outcome by the rules: turned away so, or judged so.
+pub record LentOutcome (cores : ℕ) (rows : List Row) (before after : List ℕ) (answer : Answer) : Type 0 where
+  pub faulty : (one : Check) → FirstFailing (lentOrder cores (length before) rows) one
+      → LeftAlone one before after answer
+  pub judges : ListInRange cores rows → length rows ≤ length before
+      → LentJudgement cores rows before after answer
+
+-- Any two are equal: one answer, and one content of the lent list.
+abbrev pub OneLent : Type 0
+OneLent =
+    (cores : ℕ) (rows : List Row) (before after after′ : List ℕ) (answer answer′ : Answer)
+    → LentOutcome cores rows before after answer → LentOutcome cores rows before after′ answer′
+    → (after ≡ after′) × (answer ≡ answer′)
+
 -- By value, `analyse` answers with the bounds in the first of 32 entries, and 0 in every later one.
 pub record InEntries (bounds entries : List ℕ) : Type 0 where
   pub first : take (length bounds) entries ≡ bounds

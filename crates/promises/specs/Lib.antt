@@ -1,5 +1,6 @@
 -- The page of promises, the pages that it stands on, the fakes that it catches, the starred numbers.
 pub mod Words
+pub mod Quantities
 pub mod Lists
 pub mod Tables
 pub mod Sheets

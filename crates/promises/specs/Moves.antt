@@ -40,6 +40,12 @@ ReleaseStarts =
     → Each (λ one. one .fails ≡ false) (releaseOrder b place demand)
     → PollStarted b place demand (release b place demand)
 
+-- It leaves one step.
+abbrev pub NoOtherRelease : Type 0
+NoOtherRelease =
+    (b : Bench) (place demand : ℕ) (one other : Step)
+    → PollStarted b place demand one → PollStarted b place demand other → one ≡ other
+
 -- how many rows down to a place have work remaining, and how much remains of them in all
 abbrev pub working : Bench → (place : ℕ) → ℕ
 working b zero = 0

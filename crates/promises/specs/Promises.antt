@@ -14,6 +14,7 @@ use Rattle.text.specs.Text.{textOf}
 use Rattle.bench.specs.Step.{tick}
 use Rattle.running.specs.Running.{BoundsHold}
 use Rattle.running.specs.Replayed.{ReplayInTime}
+use Rattle.promises.specs.Quantities.{KeptApart}
 use Rattle.promises.specs.Sheets.{SheetEither, SheetTaken, TakenSheetIsWhole, SheetTurnedAway}
 use Rattle.promises.specs.Sheets.{RefusedSheetHasFault}
 use Rattle.promises.specs.Sheets.{WholeLength, NoByteAtTheEnd, SheetsRead, OneReading}
@@ -22,13 +23,13 @@ use Rattle.promises.specs.Lists.{FaultyListTurnedAway, RefusedListHasFau
 use Rattle.promises.specs.Lists.{CoresTo16, RowsTo32, GapsTo1000000}
 use Rattle.promises.specs.Tables.{NamedLimits, TableMade, TableChecked}
 use Rattle.promises.specs.Lent.{Lending, lent, LentAnswered, LentTurnedAway, RefusedLentHasFault}
-use Rattle.promises.specs.Lent.{OfLengths, LentJudged, ByValue, ToldFor, TripleIsRow, TriplesInOrder, CallersInC}
+use Rattle.promises.specs.Lent.{OfLengths, LentJudged, OneLent, ByValue, ToldFor, TripleIsRow, TriplesInOrder, CallersInC}
 use Rattle.promises.specs.Calls.{BrokenExactly, Gives29, CallTurnedAway, CallTaken, RefusedCallHasFault}
 use Rattle.promises.specs.Calls.{GapPermitted, FirstReleasePermitted, OpeningRefused, OpeningTaken}
 use Rattle.promises.specs.Calls.{RefusedChangesNothing, OpenedHolds, RefusalNumbers, ClockTo1000000000, EndedListed, CallsAnswered}
 use Rattle.promises.specs.CallBytes.{RequestsRead, RequestsDone, PollComesBack, PollsFit, AnswerComesBack}
 use Rattle.promises.specs.CallBytes.{ReplayAnswered, ReplayNoRoom, ReplayNotOpened}
-use Rattle.promises.specs.Moves.{ReleaseStarts, TickServes, NoOtherTick}
+use Rattle.promises.specs.Moves.{ReleaseStarts, NoOtherRelease, TickServes, NoOtherTick}
 use Rattle.promises.specs.Windows.{JudgedRight, OneJudgement, LargestTotal, FloorForm, BoundsSolve, FormulasAnswered}
 use Rattle.promises.specs.Patterns.{PlainIsLargest, CarryIsLargest, NoMoreThanCarry}
 use Rattle.promises.specs.Tool.{GoesTheWholeWay, OneText, InDecimal, WordsInBytes, TextInFront, First1024}
@@ -97,6 +98,7 @@ pub record BenchesAnswered : Type 0 where
   pub first-release : FirstReleasePermitted
   pub clock : ClockTo1000000000
   pub releases : ReleaseStarts
+  pub no-other-release : NoOtherRelease
   pub ticks : TickServes tick
   pub no-other-tick : NoOtherTick
   pub listed : EndedListed
@@ -115,7 +117,9 @@ pub record ReplaysAnswered : Type 0 where
 
 -- Demand 1. Every sheet, row list and bench call is answered; a faulty one is turned away by number and
 -- place, in the fixed order of checks, and every list or bench then holds exactly what the rules say.
+-- Instants, lengths and microseconds are kept apart in all of them (page Quantities).
 pub record Demand1 : Type 0 where
+  pub kinds : KeptApart
   pub sheets : SheetsAnswered
   pub lists : ListsAnswered
   pub lent-lists : LentListsAnswered
@@ -145,13 +149,14 @@ pub record Demand2For (read : Reader) (judge : Judge) (lend : Lending) (tool : T
   pub lent-lists : LentJudged lend
   pub whole-way : GoesTheWholeWay tool
 
--- It holds of ours; specs/Fakes.antt has some that it does not hold of. It leaves one reading, one judgement
--- and one text. The window formulas are no larger than they have to be: in a window that holds a poll of the
--- row, each is the largest work of the row over all patterns of releases (page Patterns).
+-- It holds of ours; specs/Fakes.antt has some that it does not hold of. It leaves one reading, one judgement,
+-- on lent lists too, and one text. The window formulas are no larger than they have to be: in a window that
+-- holds a poll of the row, each is the largest work of the row over all patterns of releases (page Patterns).
 pub record Demand2 : Type 0 where
   pub ours : Demand2For readOf judged lent textOf
   pub one-reading : OneReading
   pub one-judgement : OneJudgement
+  pub one-lent : OneLent
   pub one-text : OneText
   pub largest-total : LargestTotal
   pub floor-form : FloorForm

@@ -10,8 +10,9 @@ use Rattle.laws.specs.Each.{Each}
 use Rattle.laws.specs.Permuted.{Permuted}
 use Rattle.quantities.specs.Checks.{Check, check, FirstFailing}
 use Rattle.quantities.specs.Paper.{paper}
+use Rattle.quantities.specs.Row.{rowOf}
 use Rattle.quantities.specs.Table.{rowsOf}
-use Rattle.sheet.specs.Entries.{noEntry, entriesOf, tableOf}
+use Rattle.sheet.specs.Entries.{entriesOf, tableOf}
 use Rattle.sheet.specs.Reader.{readOf, paperOf}
 use Rattle.sheet.specs.declared.Entry.{Entry}
 use Rattle.sheet.specs.declared.Sheet.{Sheet}
@@ -115,9 +116,13 @@ pub record WholeWith (sheet : List ℕ) (n : ℕ) : Type 0 where
   pub end-passes : AllPass (laterOrder sheet n)
   pub is-end : byte sheet (behind n) ≡ 3
 
+-- an entry that holds no row
+abbrev pub blankEntry : Entry
+blankEntry = record { priority = 0; label = 0; row = rowOf 0 0 0 }
+
 -- a sheet of no board and no row: each of its 32 entries is blank
 abbrev pub blankSheet : Sheet
-blankSheet = record { cores = 0; tick = record { 0 = 0 }; count = 0; entries = replicate 32 noEntry }
+blankSheet = record { cores = 0; tick = record { 0 = 0 }; count = 0; entries = replicate 32 blankEntry }
 
 -- A sheet is turned away with a number and a place. A refused sheet yields no table.
 pub record TurnedAway (number place : ℕ) (outcome : Outcome) : Type 0 where
@@ -179,7 +184,7 @@ pub record RowRead (sheet : List ℕ) (place : ℕ) (entry : Entry) : Type 0 whe
 abbrev pub RisingPriority : List Entry → Type 0
 RisingPriority entries =
     (i j : ℕ) → i < j → j < length entries
-    → getD entries i noEntry .priority < getD entries j noEntry .priority
+    → getD entries i blankEntry .priority < getD entries j blankEntry .priority
 
 -- What is read of a sheet of so many rows: the board's cores and tick length, and its rows, each once, in
 -- rising priority with their labels: the first entries of the answer, as many as it counts, and so its table.
@@ -187,13 +192,13 @@ RisingPriority entries =
 pub record SheetRead (sheet : List ℕ) (n : ℕ) (answer : Sheet) : Type 0 where
   pub in-sheet-order : List Entry
   pub as-many : length in-sheet-order ≡ n
-  pub each-row : (i : ℕ) → i < n → RowRead sheet (behind i) (getD in-sheet-order i noEntry)
+  pub each-row : (i : ℕ) → i < n → RowRead sheet (behind i) (getD in-sheet-order i blankEntry)
   pub each-once : Permuted in-sheet-order (entriesOf answer)
   pub rising : RisingPriority (entriesOf answer)
   pub counted : length (entriesOf answer) ≡ n
   pub count : answer .count ≡ n
   pub listed : entriesOf answer ≡ take n (answer .entries)
-  pub blank : drop n (answer .entries) ≡ replicate (32 - n) noEntry
+  pub blank : drop n (answer .entries) ≡ replicate (32 - n) blankEntry
   pub table : rowsOf (tableOf answer) ≡ map (λ (entry : Entry). entry .row) (entriesOf answer)
   pub table-count : tableOf answer .count ≡ n
   pub table-rows : take n (tableOf answer .rows) ≡ map (λ (entry : Entry). entry .row) (entriesOf answer)

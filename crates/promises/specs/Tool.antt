@@ -8,13 +8,13 @@ use Rattle.quantities.specs.Checks.{Check, FirstFailing}
 use Rattle.windows.specs.declared.Answer.the-variants.{Shown, NotShown}
 use Rattle.sheet.specs.declared.Entry.{Entry}
 use Rattle.sheet.specs.declared.Sheet.{Sheet}
-use Rattle.sheet.specs.Entries.{noEntry, entriesOf}
+use Rattle.sheet.specs.Entries.{entriesOf}
 use Rattle.lines.specs.Words.{ascii}
 use Rattle.lines.specs.Decimal.{decimal}
 use Rattle.text.specs.Printed.{Printed}
 use Rattle.text.specs.Text.{textOf}
 use Rattle.promises.specs.Lists.{listOrder, ListInRange}
-use Rattle.promises.specs.Sheets.{coresOf, tickOf, WholeWith, FirstFault, SheetRead}
+use Rattle.promises.specs.Sheets.{blankEntry, coresOf, tickOf, WholeWith, FirstFault, SheetRead}
 use Rattle.promises.specs.Windows.{JudgedBy}
 
 -- A number is printed in decimal: a digit below ten, or the digits of its tenth, which is not 0, and then the
@@ -52,7 +52,7 @@ abbrev pub rowTexts : List Entry → List ℕ → ℕ → List ℕ
 rowTexts entries bounds zero = []
 rowTexts entries bounds (suc k) =
     rowTexts entries bounds k
-    ++ rowText (suc k) (getD entries k noEntry .label) (getD bounds k 0) (getD entries k noEntry .row .d .0)
+    ++ rowText (suc k) (getD entries k blankEntry .label) (getD bounds k 0) (getD entries k blankEntry .row .d .0)
 
 abbrev pub notShownText : (place label : ℕ) → List ℕ
 notShownText place label = ascii "not shown " ++ decimal place ++ ascii " " ++ decimal label ++ ascii "\n"
@@ -79,7 +79,7 @@ pub data TextOf (cores tick : ℕ) (entries : List Entry) (text : List ℕ) : Ty
       → JudgedBy cores (rowsIn entries) (record { answer = NotShown (suc before); bounds = bounds })
       → text
       ≡ firstText cores tick (length entries) ++ rowTexts entries bounds before
-      ++ notShownText (suc before) (getD entries before noEntry .label)
+      ++ notShownText (suc before) (getD entries before blankEntry .label)
       → TextOf cores tick entries text
 
 -- The whole way of a sheet with n rows without fault: the rows of its records in rising priority number, and

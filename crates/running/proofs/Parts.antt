@@ -93,7 +93,7 @@ after-ours b [] = refl
 after-ours b (call ∷ calls) = after-ours (doCall b call .bench) calls
 
 -- what holds of each step of a history with one call more holds of that call
-last-step : (P : Step → Type 0) (b : Bench) (calls : List Call) (call : Call) → Each P (steps b (calls ++ call ∷ []))
+pub last-step : (P : Step → Type 0) (b : Bench) (calls : List Call) (call : Call) → Each P (steps b (calls ++ call ∷ []))
     → P (doCall (after b calls) call)
 unfolding steps after
 last-step P b [] call each = each .0

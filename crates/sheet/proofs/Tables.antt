@@ -14,7 +14,7 @@ use Rattle.sheet.specs.declared.Entry.{Entry}
 use Rattle.sheet.proofs.Sheets.{entries-of-sheet}
 
 -- a table with the entries' rows below its own
-table-with-rows : (table : Table) (entries : List Entry) → length (table .rows) ≡ rowCapacity → table .count + length entries ≤ rowCapacity
+pub table-with-rows : (table : Table) (entries : List Entry) → length (table .rows) ≡ rowCapacity → table .count + length entries ≤ rowCapacity
     → rowsOf (tableWith table entries) ≡ rowsOf table ++ map (λ (e : Entry). e .row) entries
 unfolding tableWith
 table-with-rows table [] l h = sym (append-nil (rowsOf table))
