@@ -1,2 +1,2 @@
--- What the program's reading answers.
+-- What the program reads.
 pub mod Reading

@@ -1,0 +1,2 @@
+-- The room for the input is enough.
+pub mod Reading
