@@ -2,32 +2,44 @@
 
 use crate::list::{check, refuse, Refusal, Row};
 
-pub const LAST_INSTANT: i64 = 1_000_000_000;
+pub const LAST_INSTANT: u64 = 1_000_000_000;
 
 #[derive(Clone, Debug, PartialEq, Eq)]
 pub struct Bench {
-    pub cores: i64,
-    pub instant: i64,
+    pub cores: u64,
+    pub instant: u64,
     pub rows: Vec<BenchRow>,
 }
 
 #[derive(Clone, Copy, Debug, PartialEq, Eq)]
 pub struct BenchRow {
     pub row: Row,
-    pub last_release: Option<i64>,
-    pub demand: i64,
-    pub remaining: i64,
+    pub last_release: Option<u64>,
+    pub demand: u64,
+    pub remaining: u64,
 }
 
 /// A poll that finished in a tick: finish instant minus release instant.
 #[derive(Clone, Copy, Debug, PartialEq, Eq)]
 pub struct Finish {
     pub place: usize,
-    pub response: i64,
+    pub response: u64,
+}
+
+/// The clauses of number 29.
+#[derive(Clone, Copy, Debug, PartialEq, Eq)]
+pub enum Clause {
+    /// The table fails this check.
+    Table(u32),
+    Instant,
+    LastRelease,
+    Demand,
+    Remainder,
+    NeverReleased,
 }
 
 impl Bench {
-    pub fn open(cores: i64, rows: &[Row]) -> Result<Bench, Refusal> {
+    pub fn open(cores: u64, rows: &[Row]) -> Result<Bench, Refusal> {
         check(cores, rows)?;
         let fresh = |&row| BenchRow {
             row,
@@ -42,13 +54,13 @@ impl Bench {
         })
     }
 
-    pub fn release(&mut self, place: usize, demand: i64) -> Result<(), Refusal> {
+    pub fn release(&mut self, place: u64, demand: u64) -> Result<(), Refusal> {
         self.check_sound()?;
-        if place == 0 || place > self.rows.len() {
+        if place == 0 || place > self.rows.len() as u64 {
             return refuse(20, place);
         }
         let instant = self.instant;
-        let polled = &mut self.rows[place - 1];
+        let polled = &mut self.rows[place as usize - 1];
         if demand == 0 || demand > polled.row.c {
             return refuse(23, place);
         }
@@ -97,25 +109,42 @@ impl Bench {
     }
 
     fn check_sound(&self) -> Result<(), Refusal> {
-        let rows: Vec<Row> = self.rows.iter().map(|polled| polled.row).collect();
-        let broken = check(self.cores, &rows).is_err()
-            || self.instant > LAST_INSTANT
-            || self
-                .rows
-                .iter()
-                .any(|polled| polled.is_broken(self.instant));
-        if broken {
+        if !self.broken().is_empty() {
             return refuse(29, 0);
         }
         Ok(())
     }
+
+    /// What of number 29 the bench breaks, each clause once for the bench or once for a row.
+    pub fn broken(&self) -> Vec<Clause> {
+        let rows: Vec<Row> = self.rows.iter().map(|polled| polled.row).collect();
+        let mut clauses = Vec::new();
+        if let Err(refusal) = check(self.cores, &rows) {
+            clauses.push(Clause::Table(refusal.number));
+        }
+        if self.instant > LAST_INSTANT {
+            clauses.push(Clause::Instant);
+        }
+        for polled in &self.rows {
+            polled.add_broken(self.instant, &mut clauses);
+        }
+        clauses
+    }
 }
 
 impl BenchRow {
-    fn is_broken(&self, instant: i64) -> bool {
-        self.last_release.is_some_and(|last| last > instant)
-            || self.demand > self.row.c
-            || self.remaining > self.demand
-            || (self.last_release.is_none() && self.remaining > 0)
+    fn add_broken(&self, instant: u64, clauses: &mut Vec<Clause>) {
+        if self.last_release.is_some_and(|last| last > instant) {
+            clauses.push(Clause::LastRelease);
+        }
+        if self.demand > self.row.c {
+            clauses.push(Clause::Demand);
+        }
+        if self.remaining > self.demand {
+            clauses.push(Clause::Remainder);
+        }
+        if self.last_release.is_none() && self.remaining > 0 {
+            clauses.push(Clause::NeverReleased);
+        }
     }
 }

@@ -1,9 +1,10 @@
 // The self-test's benches: by hand, with each refusal, broken ones, and random histories.
 
 use crate::bench::{Bench, Finish, LAST_INSTANT};
+use crate::document::rows;
 use crate::list::Row;
 use crate::random::Random;
-use crate::selftest::{random_list, refusal, rows, shown_bounds, Tests};
+use crate::selftest::{random_list, refusal, shown_bounds, Tests};
 
 pub fn run(tests: &mut Tests) {
     bench_by_hand(tests);
@@ -12,7 +13,7 @@ pub fn run(tests: &mut Tests) {
     random_benches(tests);
 }
 
-fn opened(cores: i64, list: &[(i64, i64, i64)]) -> Bench {
+fn opened(cores: u64, list: &[(u64, u64, u64)]) -> Bench {
     Bench::open(cores, &rows(list)).expect("the rows pass 1 to 6")
 }
 
@@ -94,7 +95,7 @@ fn bench_refusals(tests: &mut Tests) {
     let mut bench = opened(1, &[(3, 3, 3), (1, 3, 3)]);
     let full_demands = [bench.release(1, 3), bench.release(2, 1)];
     tests.same("full demands", full_demands, [Ok(()), Ok(())]);
-    let mut turned_away = |bench: &Bench, place: usize, demand: i64, number: u32| {
+    let mut turned_away = |bench: &Bench, place: u64, demand: u64, number: u32| {
         let mut lent = bench.clone();
         tests.same(
             "release",
@@ -177,7 +178,7 @@ fn random_benches(tests: &mut Tests) {
     tests.same("random benches", faults, vec![]);
 }
 
-fn history_keeps(random: &mut Random, cores: i64, list: &[Row], bounds: &[i64]) -> bool {
+fn history_keeps(random: &mut Random, cores: u64, list: &[Row], bounds: &[u64]) -> bool {
     let mut bench = Bench::open(cores, list).expect("the rows pass 1 to 6");
     let mut accepted = vec![0; list.len()];
     let mut served = vec![0; list.len()];
@@ -186,7 +187,7 @@ fn history_keeps(random: &mut Random, cores: i64, list: &[Row], bounds: &[i64]) 
         add(&mut accepted, &release_some(random, eager, &mut bench));
         let before = remaining(&bench);
         let finished = bench.tick().expect("the bench ticks");
-        let units: Vec<i64> = before
+        let units: Vec<u64> = before
             .iter()
             .zip(remaining(&bench))
             .map(|(had, has)| had - has)
@@ -203,23 +204,19 @@ fn history_keeps(random: &mut Random, cores: i64, list: &[Row], bounds: &[i64]) 
 }
 
 /// The demands accepted. An eager history polls each row as soon and as long as it may.
-fn release_some(random: &mut Random, eager: bool, bench: &mut Bench) -> Vec<i64> {
+fn release_some(random: &mut Random, eager: bool, bench: &mut Bench) -> Vec<u64> {
     let mut demands = vec![0; bench.rows.len()];
     for (index, accepted) in demands.iter_mut().enumerate() {
         let c = bench.rows[index].row.c;
-        let demand = if eager {
-            c
-        } else {
-            random.below(c as u64 + 2) as i64
-        };
-        if (eager || random.one_in(3)) && bench.release(index + 1, demand).is_ok() {
+        let demand = if eager { c } else { random.below(c + 2) };
+        if (eager || random.one_in(3)) && bench.release(index as u64 + 1, demand).is_ok() {
             *accepted = demand;
         }
     }
     demands
 }
 
-fn wanted_units(cores: i64, remaining: &[i64]) -> Vec<i64> {
+fn wanted_units(cores: u64, remaining: &[u64]) -> Vec<u64> {
     let mut units = vec![0; remaining.len()];
     let waiting = (0..remaining.len()).filter(|&index| remaining[index] > 0);
     waiting
@@ -228,18 +225,18 @@ fn wanted_units(cores: i64, remaining: &[i64]) -> Vec<i64> {
     units
 }
 
-fn remaining(bench: &Bench) -> Vec<i64> {
+fn remaining(bench: &Bench) -> Vec<u64> {
     bench.rows.iter().map(|polled| polled.remaining).collect()
 }
 
-fn add(sums: &mut [i64], more: &[i64]) {
+fn add(sums: &mut [u64], more: &[u64]) {
     sums.iter_mut()
         .zip(more)
         .for_each(|(sum, number)| *sum += number);
 }
 
 /// Rows without a bound are never late.
-fn is_late(finish: &Finish, bounds: &[i64]) -> bool {
+fn is_late(finish: &Finish, bounds: &[u64]) -> bool {
     bounds
         .get(finish.place - 1)
         .is_some_and(|&bound| finish.response > bound)

@@ -107,7 +107,7 @@ pub fn edge_times(random: &mut Random, draft: &mut Draft) {
 /// A gap at its limit or just beyond, in a row that is otherwise sound.
 pub fn edge_gap(random: &mut Random, draft: &mut Draft) {
     if let Some(row) = any_row(random, draft) {
-        let limit = LARGEST_GAP as u64 * draft.tick;
+        let limit = LARGEST_GAP * draft.tick;
         let edge = random.pick(&[limit - 1, limit, limit + draft.tick - 1, limit + draft.tick]);
         T.set(&mut draft.records[row], edge);
     }
@@ -130,7 +130,7 @@ pub fn close_times(random: &mut Random, draft: &mut Draft) {
 
 /// Microseconds at the edges of the ticks and of the four bytes.
 fn edge_length(random: &mut Random, tick: u64) -> u64 {
-    let limit = LARGEST_GAP as u64 * tick;
+    let limit = LARGEST_GAP * tick;
     random.pick(&[
         0,
         1,

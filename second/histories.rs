@@ -1,16 +1,44 @@
-// The comparison of the bench: a child program runs the same histories, and each answer has to be
-// the same bytes.
-
-use std::collections::BTreeMap;
-use std::io::{BufReader, BufWriter, Read, Write};
-use std::process::{Child, ChildStdin, ChildStdout};
-use std::thread;
+// The comparison of histories: a bench from its opening on, and the answer to each call.
 
 use crate::bench::Bench;
-use crate::compare::{complain, read_answer, start};
-use crate::frames::write_frame;
+use crate::compare::Kind;
 use crate::history_cases;
 use crate::list::{Refusal, Row};
+use crate::numbers::number;
+use crate::tally::{numbered, Entry, Tally};
+
+pub struct Histories;
+
+impl Kind for Histories {
+    const NAME: &'static str = "histories";
+    const FRAMES: &'static str = "history-frames";
+    const ANSWERS: &'static str = "history-answers";
+    type Own = Ending;
+
+    fn fixed() -> Vec<Vec<u8>> {
+        history_cases::fixed()
+    }
+
+    fn random(seed: u64, index: u64) -> Vec<u8> {
+        history_cases::history(seed, index)
+    }
+
+    fn own(case: &[u8]) -> Ending {
+        ending(case)
+    }
+
+    fn bytes(own: &Ending) -> Vec<u8> {
+        bytes(own)
+    }
+
+    fn required() -> Vec<Entry> {
+        required()
+    }
+
+    fn count(tally: &mut Tally, own: &Ending) {
+        count_ending(tally, own);
+    }
+}
 
 /// As many bytes has the program under comparison for the answers to one history.
 const ANSWER_ROOM: usize = 4_096;
@@ -22,11 +50,6 @@ pub enum Ending {
     NotACall(usize),
     NoRoom(usize),
     TooShort,
-}
-
-/// The bytes that answer a history.
-pub fn answer(history: &[u8]) -> Vec<u8> {
-    bytes(&ending(history))
 }
 
 fn bytes(ending: &Ending) -> Vec<u8> {
@@ -50,7 +73,7 @@ fn ending(history: &[u8]) -> Ending {
     }
     let (front, calls) = rest.split_at(length);
     let rows: Vec<Row> = front.chunks(12).map(row).collect();
-    match Bench::open(i64::from(cores), &rows) {
+    match Bench::open(u64::from(cores), &rows) {
         Ok(bench) => run(bench, calls),
         Err(refusal) => Ending::NotOpened(refusal),
     }
@@ -62,12 +85,6 @@ fn row(bytes: &[u8]) -> Row {
         d: number(&bytes[4..8]),
         t: number(&bytes[8..]),
     }
-}
-
-fn number(bytes: &[u8]) -> i64 {
-    bytes
-        .iter()
-        .fold(0, |sum, &byte| sum * 256 + i64::from(byte))
 }
 
 fn run(mut bench: Bench, calls: &[u8]) -> Ending {
@@ -88,7 +105,7 @@ fn run(mut bench: Bench, calls: &[u8]) -> Ending {
 fn answer_call(bench: &mut Bench, call: &[u8]) -> Option<Vec<u8>> {
     let answered = match *call {
         [1, place, ref demand @ ..] if demand.len() == 4 => bench
-            .release(usize::from(place), number(demand))
+            .release(u64::from(place), number(demand))
             .map(|()| Vec::new()),
         [2, _, _, _, _, _] => bench.tick(),
         _ => return None,
@@ -106,120 +123,45 @@ fn answer_call(bench: &mut Bench, call: &[u8]) -> Option<Vec<u8>> {
     })
 }
 
-/// Compares `count` histories and prints what came of it; whether all were the same.
-pub fn compare(seed: u64, count: u64, program: &str, arguments: &[String]) -> bool {
-    let mut child = match start(program, arguments) {
-        Ok(child) => child,
-        Err(error) => return complain(&format!("{program} does not start: {error}")),
-    };
-    let same = exchange(seed, count, &mut child);
-    if same.is_none() {
-        let _ = child.kill();
-    }
-    let ended_well = child.wait().is_ok_and(|status| status.success());
-    match same {
-        Some(tally) if ended_well => {
-            tally.print();
-            println!("histories: {count} compared, 0 differ");
-            true
-        }
-        Some(_) => complain("the program did not end well"),
-        None => false,
+const DONE: &str = "ending 0, all calls answered";
+const NOT_OPENED: &str = "ending 1, not opened";
+const NOT_A_CALL: &str = "ending 2, not a call";
+const NO_ROOM: &str = "ending 3, no room";
+const TOO_SHORT: &str = "ending 4, too short for its rows";
+const FAULT: &str = "not opened, by fault";
+const CALL: &str = "calls answered, by number";
+const POLLS: &str = "polls ended";
+
+/// Each ending, each fault of an opening, and each answer to a call but 24 and 29: 24 takes too many
+/// ticks, and no opened bench is broken.
+fn required() -> Vec<Entry> {
+    let endings = [DONE, NOT_OPENED, NOT_A_CALL, NO_ROOM, TOO_SHORT, POLLS];
+    let mut entries: Vec<Entry> = endings.iter().map(|&name| (name, None)).collect();
+    entries.extend(numbered(FAULT, &[1, 2, 3, 4, 5, 6]));
+    entries.extend(numbered(CALL, &[0, 20, 21, 22, 23]));
+    entries
+}
+
+fn count_ending(tally: &mut Tally, ending: &Ending) {
+    tally.add(match ending {
+        Ending::Done(_) => DONE,
+        Ending::NotOpened(_) => NOT_OPENED,
+        Ending::NotACall(_) => NOT_A_CALL,
+        Ending::NoRoom(_) => NO_ROOM,
+        Ending::TooShort => TOO_SHORT,
+    });
+    match ending {
+        Ending::Done(answers) => count_answers(tally, answers),
+        Ending::NotOpened(refusal) => tally.add_number(FAULT, u64::from(refusal.number)),
+        _ => {}
     }
 }
 
-fn exchange(seed: u64, count: u64, child: &mut Child) -> Option<Tally> {
-    let (input, output) = (child.stdin.take()?, child.stdout.take()?);
-    thread::spawn(move || send(seed, count, input));
-    compare_answers(seed, count, BufReader::new(output))
-}
-
-/// Stops when the child takes no more: its missing answers are noticed where they are read.
-fn send(seed: u64, count: u64, input: ChildStdin) {
-    let mut input = BufWriter::new(input);
-    for index in 0..count {
-        if write_frame(&mut input, &history_cases::history(seed, index)).is_err() {
-            return;
-        }
-    }
-    let _ = input.flush();
-}
-
-/// Nothing if an answer differs or is missing, or if there is more than the answers.
-fn compare_answers(seed: u64, count: u64, mut output: BufReader<ChildStdout>) -> Option<Tally> {
-    let mut tally = Tally::default();
-    for index in 0..count {
-        let history = history_cases::history(seed, index);
-        let own = ending(&history);
-        let given = read_answer(&mut output, index)?;
-        if given != bytes(&own) {
-            show_difference(index, &history, &bytes(&own), &given);
-            return None;
-        }
-        tally.add_ending(&own);
-    }
-    if output.bytes().next().is_some() {
-        complain("the program goes on after its last answer");
-        return None;
-    }
-    Some(tally)
-}
-
-fn show_difference(index: u64, history: &[u8], own: &[u8], given: &[u8]) {
-    let hex = |bytes: &[u8]| -> String { bytes.iter().map(|byte| format!("{byte:02X}")).collect() };
-    println!("history {index} differs, {} bytes", history.len());
-    println!("{}", hex(history));
-    println!("own answer:\n{}", hex(own));
-    println!("program's answer:\n{}", hex(given));
-}
-
-/// How often each answer to a call and each ending was given.
-#[derive(Default)]
-struct Tally {
-    calls: BTreeMap<u8, u64>,
-    polls_ended: u64,
-    endings: BTreeMap<&'static str, u64>,
-    not_opened: BTreeMap<u32, u64>,
-}
-
-impl Tally {
-    /// The answers stand one after the other, each with five bytes for each poll that ended.
-    fn add_answers(&mut self, mut answers: &[u8]) {
-        while let &[number, _, polls, ..] = answers {
-            *self.calls.entry(number).or_default() += 1;
-            self.polls_ended += u64::from(polls);
-            answers = &answers[3 + 5 * usize::from(polls)..];
-        }
-    }
-
-    fn add_ending(&mut self, ending: &Ending) {
-        let name = match ending {
-            Ending::Done(_) => "all calls answered",
-            Ending::NotOpened(_) => "not opened",
-            Ending::NotACall(_) => "not a call",
-            Ending::NoRoom(_) => "no room",
-            Ending::TooShort => "too short for its rows",
-        };
-        *self.endings.entry(name).or_default() += 1;
-        match ending {
-            Ending::Done(answers) => self.add_answers(answers),
-            Ending::NotOpened(refusal) => {
-                *self.not_opened.entry(refusal.number).or_default() += 1;
-            }
-            _ => {}
-        }
-    }
-
-    fn print(&self) {
-        for (name, times) in &self.endings {
-            println!("{name}: {times}");
-        }
-        for (number, times) in &self.not_opened {
-            println!("not opened, fault {number}: {times}");
-        }
-        for (number, times) in &self.calls {
-            println!("call answered {number}: {times}");
-        }
-        println!("polls ended: {}", self.polls_ended);
+/// The answers stand one after the other, each with five bytes for each poll that ended.
+fn count_answers(tally: &mut Tally, mut answers: &[u8]) {
+    while let &[number, _, polls, ..] = answers {
+        tally.add_number(CALL, u64::from(number));
+        tally.add_times((POLLS, None), u64::from(polls));
+        answers = &answers[3 + 5 * usize::from(polls)..];
     }
 }

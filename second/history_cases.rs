@@ -1,10 +1,15 @@
 // The histories that are sent: a row list and calls on its bench, near the edges of what is taken.
 
 use crate::bench::Bench;
+use crate::document::{list, rows as rows_of, POLLS_BY_HAND};
 use crate::list::Row;
+use crate::numbers::append;
 use crate::random::Random;
 
 const TICK: [u8; 6] = [2, 0, 0, 0, 0, 0];
+
+/// The largest number of four bytes.
+const LARGEST: u64 = u32::MAX as u64;
 
 /// History number `index` of a seed, as a frame's bytes.
 pub fn history(seed: u64, index: u64) -> Vec<u8> {
@@ -23,11 +28,71 @@ pub fn history(seed: u64, index: u64) -> Vec<u8> {
     bytes
 }
 
+/// The document's bench by hand, and each ending, fault of an opening and answer to a call.
+pub fn fixed() -> Vec<Vec<u8>> {
+    let mut histories = vec![by_hand(), with_each_refusal(), Vec::new(), vec![1, 1, 0]];
+    let faulty = [
+        list(0, &[]),
+        list(0, &[(0, 5, 5)]),
+        list(17, &[(1, 1, 1)]),
+        list(1, &[(1, 4, 4), (0, 5, 5)]),
+        list(1, &[(5, 4, 3)]),
+        list(1, &[(1, 4, 3)]),
+        list(1, &[(1, 4, 1_000_001)]),
+    ];
+    histories.extend(
+        faulty
+            .iter()
+            .map(|list| front(list.cores as u8, &list.rows)),
+    );
+    let one_row = front(1, &[Row { c: 1, d: 1, t: 1 }]);
+    let then = |calls: &[u8]| [&one_row[..], calls].concat();
+    histories.push(then(&[0; 6]));
+    histories.push(then(&TICK[..5]));
+    // 1,365 answers of three bytes fit into 4,096.
+    histories.push(then(&TICK.repeat(1_365)));
+    histories.push(then(&TICK.repeat(1_366)));
+    histories
+}
+
+/// Full demands at instant 0, row 1 again at 4 and 8, row 2 at 6: row 3 finishes at 12.
+fn by_hand() -> Vec<u8> {
+    let rows = rows_of(&[(1, 4, 4), (2, 6, 6), (5, 12, 12)]);
+    let mut history = front(1, &rows);
+    for instant in 0..12 {
+        for place in 1..=3 {
+            if POLLS_BY_HAND.contains(&(instant, place)) {
+                history.extend(release(place, rows[place as usize - 1].c));
+            }
+        }
+        history.extend(TICK);
+    }
+    history
+}
+
+fn with_each_refusal() -> Vec<u8> {
+    let mut history = front(1, &rows_of(&[(3, 3, 3), (1, 3, 3)]));
+    for (place, demand) in [(1, 3), (2, 1), (0, 0), (3, 0), (1, 0), (1, 4), (1, 1)] {
+        history.extend(release(place, demand));
+    }
+    history.extend(TICK.repeat(3));
+    for (place, demand) in [(2, 1), (2, 2), (1, 1)] {
+        history.extend(release(place, demand));
+    }
+    history
+}
+
+fn release(place: u64, demand: u64) -> Vec<u8> {
+    let mut call = vec![1, place as u8];
+    append(&mut call, 4, demand);
+    call
+}
+
 fn front(cores: u8, rows: &[Row]) -> Vec<u8> {
     let mut bytes = vec![cores, rows.len() as u8];
     for row in rows {
         for length in [row.c, row.d, row.t] {
-            bytes.extend((length as u32).to_be_bytes());
+            append(&mut bytes, 4, length);
         }
     }
     bytes
@@ -80,15 +145,10 @@ fn row(random: &mut Random, is_tight: bool) -> Row {
     let d = c + random.below(most_more);
     let t = d + random.below(most_more);
     let t = if random.one_in(100) { 1_000_000 } else { t };
-    Row {
-        c: c as i64,
-        d: d as i64,
-        t: t as i64,
-    }
+    Row { c, d, t }
 }
 
 fn faulty(random: &mut Random, row: Row) -> Row {
-    let largest = i64::from(u32::MAX);
     match random.below(5) {
         0 => Row { c: 0, ..row },
         1 => Row {
@@ -100,10 +160,10 @@ fn faulty(random: &mut Random, row: Row) -> Row {
             ..row
         },
         3 => Row {
-            t: random.pick(&[1_000_001, largest]),
+            t: random.pick(&[1_000_001, LARGEST]),
             ..row
         },
-        _ => Row { c: largest, ..row },
+        _ => Row { c: LARGEST, ..row },
     }
 }
 
@@ -116,7 +176,7 @@ fn calls(random: &mut Random, cores: u8, rows: &[Row]) -> Vec<u8> {
         _ => random.between(1, 150),
     };
     let busy = random.between(1, 5);
-    let mut bench = Bench::open(i64::from(cores), rows).ok();
+    let mut bench = Bench::open(u64::from(cores), rows).ok();
     let mut calls = Vec::new();
     while calls.len() < 6 * count as usize {
         let demand_and_place = match &bench {
@@ -131,7 +191,7 @@ fn calls(random: &mut Random, cores: u8, rows: &[Row]) -> Vec<u8> {
 
 /// A poll of a row whose gap ends at the next tick or has ended; sometimes of any row; nothing for a
 /// tick.
-fn near_the_gap(random: &mut Random, bench: &Bench, busy: u64) -> Option<(u8, u32)> {
+pub fn near_the_gap(random: &mut Random, bench: &Bench, busy: u64) -> Option<(u64, u64)> {
     let is_near = |place: &usize| {
         let polled = &bench.rows[*place];
         let gap_ends = polled.last_release.map(|last| last + polled.row.t);
@@ -145,23 +205,22 @@ fn near_the_gap(random: &mut Random, bench: &Bench, busy: u64) -> Option<(u8, u3
     } else {
         return None;
     };
-    Some((place as u8 + 1, demand(random, bench.rows[place].row)))
+    Some((place as u64 + 1, demand(random, bench.rows[place].row)))
 }
 
-fn demand(random: &mut Random, row: Row) -> u32 {
-    let c = row.c as u32;
+fn demand(random: &mut Random, row: Row) -> u64 {
     match random.below(16) {
         0 => 0,
-        1 => c + 1,
-        2 => random.pick(&[1_000_000, 1_000_000_001, u32::MAX]),
+        1 => row.c + 1,
+        2 => random.pick(&[1_000_000, 1_000_000_001, LARGEST]),
         3..=5 => 1,
-        6..=8 => random.between(1, u64::from(c)) as u32,
-        _ => c,
+        6..=8 => random.between(1, row.c),
+        _ => row.c,
     }
 }
 
 /// A poll with a wrong place, or of any row with any demand.
-fn wrong(random: &mut Random, rows: &[Row]) -> (u8, u32) {
+fn wrong(random: &mut Random, rows: &[Row]) -> (u64, u64) {
     let past = rows.len() as u8;
     let place = match random.below(6) {
         0 => 0,
@@ -171,24 +230,23 @@ fn wrong(random: &mut Random, rows: &[Row]) -> (u8, u32) {
         _ => random.below(u64::from(past) + 1) as u8,
     };
     let demand = match random.below(4) {
-        0 => random.next() as u32,
-        _ => random.below(6) as u32,
+        0 => random.next() & LARGEST,
+        _ => random.below(6),
     };
-    (place, demand)
+    (u64::from(place), demand)
 }
 
 fn add_call(
     random: &mut Random,
-    poll: Option<(u8, u32)>,
+    poll: Option<(u64, u64)>,
     bench: &mut Option<Bench>,
     calls: &mut Vec<u8>,
 ) {
     match poll {
         Some((place, demand)) => {
-            calls.extend([1, place]);
-            calls.extend(demand.to_be_bytes());
+            calls.extend(release(place, demand));
             if let Some(bench) = bench {
-                let _ = bench.release(usize::from(place), i64::from(demand));
+                let _ = bench.release(place, demand);
             }
         }
         None => {

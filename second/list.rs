@@ -1,38 +1,38 @@
 // The analysis of a row list: the checks 1 to 7, then the bounds by stepping every window.
 
 pub const MOST_ROWS: usize = 32;
-pub const MOST_CORES: i64 = 16;
-pub const LARGEST_GAP: i64 = 1_000_000;
+pub const MOST_CORES: u64 = 16;
+pub const LARGEST_GAP: u64 = 1_000_000;
 
 const AFFORDABLE_CHOICES: u64 = 2_000;
 
-/// C, D and T in ticks. They come from unsigned numbers and are never negative.
+/// C, D and T in ticks: any unsigned numbers, until the checks have passed.
 #[derive(Clone, Copy, Debug, PartialEq, Eq)]
 pub struct Row {
-    pub c: i64,
-    pub d: i64,
-    pub t: i64,
+    pub c: u64,
+    pub d: u64,
+    pub t: u64,
 }
 
 #[derive(Clone, Copy, Debug, PartialEq, Eq)]
 pub struct Refusal {
     pub number: u32,
-    pub place: usize,
+    pub place: u64,
 }
 
 #[derive(Clone, Debug, PartialEq, Eq)]
 pub enum Answer {
-    AllShown { bounds: Vec<i64> },
-    NotShown { place: usize, bounds: Vec<i64> },
+    AllShown { bounds: Vec<u64> },
+    NotShown { place: usize, bounds: Vec<u64> },
     Refused(Refusal),
 }
 
-pub fn refuse<T>(number: u32, place: usize) -> Result<T, Refusal> {
+pub fn refuse<T>(number: u32, place: u64) -> Result<T, Refusal> {
     Err(Refusal { number, place })
 }
 
 /// `entries` is the number of entries of the caller's bounds list.
-pub fn analyse(cores: i64, rows: &[Row], entries: usize) -> Answer {
+pub fn analyse(cores: u64, rows: &[Row], entries: usize) -> Answer {
     match check(cores, rows).and_then(|()| check_entries(rows, entries)) {
         Ok(()) => search(cores, rows),
         Err(refusal) => Answer::Refused(refusal),
@@ -47,7 +47,7 @@ fn check_entries(rows: &[Row], entries: usize) -> Result<(), Refusal> {
 }
 
 /// The checks 1 to 6 in their order.
-pub fn check(cores: i64, rows: &[Row]) -> Result<(), Refusal> {
+pub fn check(cores: u64, rows: &[Row]) -> Result<(), Refusal> {
     if rows.is_empty() || rows.len() > MOST_ROWS {
         return refuse(1, 0);
     }
@@ -56,7 +56,7 @@ pub fn check(cores: i64, rows: &[Row]) -> Result<(), Refusal> {
     }
     for (index, row) in rows.iter().enumerate() {
         if let Some(number) = row_fault(row) {
-            return refuse(number, index + 1);
+            return refuse(number, index as u64 + 1);
         }
     }
     Ok(())
@@ -78,7 +78,7 @@ fn row_fault(row: &Row) -> Option<u32> {
     None
 }
 
-fn search(cores: i64, rows: &[Row]) -> Answer {
+fn search(cores: u64, rows: &[Row]) -> Answer {
     let carries = cores as usize - 1;
     let mut bounds = Vec::new();
     for (index, &row) in rows.iter().enumerate() {
@@ -92,11 +92,11 @@ fn search(cores: i64, rows: &[Row]) -> Answer {
 }
 
 /// The least window that passes, if one does up to D. At most `carries` rows above carry in.
-pub fn bound(cores: i64, carries: usize, row: Row, above: &[Row], bounds: &[i64]) -> Option<i64> {
+pub fn bound(cores: u64, carries: usize, row: Row, above: &[Row], bounds: &[u64]) -> Option<u64> {
     (row.c..=row.d).find(|&x| passes(cores, carries, x, row, above, bounds))
 }
 
-fn passes(cores: i64, carries: usize, x: i64, row: Row, above: &[Row], bounds: &[i64]) -> bool {
+fn passes(cores: u64, carries: usize, x: u64, row: Row, above: &[Row], bounds: &[u64]) -> bool {
     let parts = interferences(x, row, above, bounds);
     let limit = cores * (x - row.c + 1);
     if choices(parts.len(), carries) <= AFFORDABLE_CHOICES {
@@ -106,26 +106,27 @@ fn passes(cores: i64, carries: usize, x: i64, row: Row, above: &[Row], bounds: &
     }
 }
 
-pub fn work_without_carry(x: i64, row: Row) -> i64 {
+pub fn work_without_carry(x: u64, row: Row) -> u64 {
     (x / row.t) * row.c + (x % row.t).min(row.c)
 }
 
-pub fn work_with_carry(x: i64, row: Row, bound: i64) -> i64 {
-    let y = (x - row.c).max(0);
-    let a = (y % row.t - (row.t - bound)).max(0).min(row.c - 1);
+/// A saturating difference is one that is raised to 0 where it would be negative.
+pub fn work_with_carry(x: u64, row: Row, bound: u64) -> u64 {
+    let y = x.saturating_sub(row.c);
+    let a = (y % row.t).saturating_sub(row.t - bound).min(row.c - 1);
     (y / row.t) * row.c + row.c + a
 }
 
 /// What one row above adds in a window: as a plain row, and as a carry-in row.
 #[derive(Clone, Copy, Debug)]
 pub struct Interference {
-    pub plain: i64,
-    pub carry: i64,
+    pub plain: u64,
+    pub carry: u64,
 }
 
-pub fn interferences(x: i64, row: Row, above: &[Row], bounds: &[i64]) -> Vec<Interference> {
+pub fn interferences(x: u64, row: Row, above: &[Row], bounds: &[u64]) -> Vec<Interference> {
     let most = x - row.c + 1;
-    let one = |(&upper, &bound): (&Row, &i64)| Interference {
+    let one = |(&upper, &bound): (&Row, &u64)| Interference {
         plain: work_without_carry(x, upper).min(most),
         carry: work_with_carry(x, upper, bound).min(most),
     };
@@ -146,7 +147,7 @@ pub fn choices(count: usize, carries: usize) -> u64 {
 
 /// Goes through every choice: each row as a carry-in row, while there may be one more, and as a
 /// plain row.
-pub fn every_choice_below(parts: &[Interference], carries: usize, sum: i64, limit: i64) -> bool {
+pub fn every_choice_below(parts: &[Interference], carries: usize, sum: u64, limit: u64) -> bool {
     let Some((first, rest)) = parts.split_first() else {
         return sum < limit;
     };
@@ -156,11 +157,12 @@ pub fn every_choice_below(parts: &[Interference], carries: usize, sum: i64, limi
 
 /// The largest sum over all choices. A choice adds up to the plain sum of all rows and the gains
 /// (carry minus plain) of the chosen ones; the plain sum is the same for each choice and each
-/// gain depends on its own row alone, so no choice beats the largest gains, none below 0.
-pub fn largest_by_gains(parts: &[Interference], carries: usize) -> i64 {
-    let plain: i64 = parts.iter().map(|part| part.plain).sum();
-    let mut gains: Vec<i64> = parts.iter().map(|part| part.carry - part.plain).collect();
+/// gain depends on its own row alone, so no choice beats the largest gains. A gain below 0 counts as
+/// 0: that row is better left plain.
+pub fn largest_by_gains(parts: &[Interference], carries: usize) -> u64 {
+    let plain: u64 = parts.iter().map(|part| part.plain).sum();
+    let gain = |part: &Interference| part.carry.saturating_sub(part.plain);
+    let mut gains: Vec<u64> = parts.iter().map(gain).collect();
     gains.sort_by(|a, b| b.cmp(a));
-    let chosen: i64 = gains.iter().take(carries).filter(|&&gain| gain > 0).sum();
-    plain + chosen
+    plain + gains.iter().take(carries).sum::<u64>()
 }

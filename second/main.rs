@@ -1,26 +1,37 @@
-// The commands: answer, selftest; sheets, frames, answers; histories, history-frames, history-answers.
+// The commands: answer and selftest, the desk's own command, and three for each kind of case.
 
 mod bench;
 mod bench_tests;
 mod cases;
 mod compare;
 mod damage;
+mod desk;
+mod desk_cases;
+mod document;
 mod draft;
+mod fixed_sheets;
 mod frames;
 mod histories;
 mod history_cases;
 mod list;
+mod numbers;
 mod random;
+mod row_lists;
 mod selftest;
 mod sheet;
 mod sheet_tests;
+mod sheets;
+mod tally;
 mod text;
 
-use std::io::{stdin, stdout, BufReader, BufWriter, Read, Result, Write};
+use std::io::{stdin, stdout, Read, Result, Write};
 use std::process::ExitCode;
+
+use compare::{compare, write_answers, write_cases, Kind};
 
 const USAGE: &str = "second answer
 second selftest
+second desk SEED COUNT PROGRAM [ARG..]
 second sheets SEED COUNT PROGRAM [ARG..]
 second frames SEED COUNT
 second answers
@@ -30,52 +41,55 @@ second history-answers";
 
 fn main() -> ExitCode {
     let arguments: Vec<String> = std::env::args().skip(1).collect();
+    let done_well = own_command(&arguments)
+        .or_else(|| command_of::<sheets::Sheets>(&arguments))
+        .or_else(|| command_of::<histories::Histories>(&arguments));
+    match done_well {
+        Some(true) => ExitCode::SUCCESS,
+        Some(false) => ExitCode::FAILURE,
+        None => {
+            eprintln!("{USAGE}");
+            ExitCode::from(2)
+        }
+    }
+}
+
+/// Whether the command was done well; nothing if it is another one.
+fn own_command(arguments: &[String]) -> Option<bool> {
     let words: Vec<&str> = arguments.iter().map(String::as_str).collect();
     match words[..] {
-        ["answer"] => done(answer()),
-        ["selftest"] => good(selftest::run()),
-        ["sheets", seed, count, program, ..] => match (seed.parse(), count.parse()) {
-            (Ok(seed), Ok(count)) => good(compare::compare(seed, count, program, &arguments[4..])),
-            _ => usage(),
-        },
-        ["frames", seed, count] => match (seed.parse(), count.parse()) {
-            (Ok(seed), Ok(count)) => done(frames(seed, count, cases::sheet)),
-            _ => usage(),
-        },
-        ["answers"] => done(answers(text::answer)),
-        ["histories", seed, count, program, ..] => match (seed.parse(), count.parse()) {
-            (Ok(seed), Ok(count)) => {
-                good(histories::compare(seed, count, program, &arguments[4..]))
-            }
-            _ => usage(),
-        },
-        ["history-frames", seed, count] => match (seed.parse(), count.parse()) {
-            (Ok(seed), Ok(count)) => done(frames(seed, count, history_cases::history)),
-            _ => usage(),
-        },
-        ["history-answers"] => done(answers(histories::answer)),
-        _ => usage(),
+        ["answer"] => Some(done(answer())),
+        ["selftest"] => Some(selftest::run()),
+        ["desk", seed, count, program, ..] => {
+            let (seed, count) = (seed.parse().ok()?, count.parse().ok()?);
+            Some(desk::compare(seed, count, program, &arguments[4..]))
+        }
+        _ => None,
     }
 }
 
-fn good(all_passed: bool) -> ExitCode {
-    if all_passed {
-        ExitCode::SUCCESS
-    } else {
-        ExitCode::FAILURE
+/// The three commands that each kind of case has.
+fn command_of<K: Kind>(arguments: &[String]) -> Option<bool> {
+    let words: Vec<&str> = arguments.iter().map(String::as_str).collect();
+    match words[..] {
+        [name, seed, count, program, ..] if name == K::NAME => {
+            let (seed, count) = (seed.parse().ok()?, count.parse().ok()?);
+            Some(compare::<K>(seed, count, program, &arguments[4..]))
+        }
+        [name, seed, count] if name == K::FRAMES => {
+            let (seed, count) = (seed.parse().ok()?, count.parse().ok()?);
+            Some(done(write_cases::<K>(seed, count)))
+        }
+        [name] if name == K::ANSWERS => Some(done(write_answers::<K>())),
+        _ => None,
     }
 }
 
-fn done(result: Result<()>) -> ExitCode {
+fn done(result: Result<()>) -> bool {
     if let Err(error) = &result {
         eprintln!("{error}");
     }
-    good(result.is_ok())
-}
-
-fn usage() -> ExitCode {
-    eprintln!("{USAGE}");
-    ExitCode::from(2)
+    result.is_ok()
 }
 
 fn answer() -> Result<()> {
@@ -84,21 +98,4 @@ fn answer() -> Result<()> {
         .take(text::MOST_BYTES as u64)
         .read_to_end(&mut sheet)?;
     stdout().write_all(&text::answer(&sheet))
-}
-
-fn frames(seed: u64, count: u64, case: fn(u64, u64) -> Vec<u8>) -> Result<()> {
-    let mut out = BufWriter::new(stdout());
-    for index in 0..count {
-        frames::write_frame(&mut out, &case(seed, index))?;
-    }
-    out.flush()
-}
-
-fn answers(answer: fn(&[u8]) -> Vec<u8>) -> Result<()> {
-    let mut input = BufReader::new(stdin());
-    let mut out = BufWriter::new(stdout());
-    while let Some(case) = frames::read_frame(&mut input)? {
-        frames::write_frame(&mut out, &answer(&case))?;
-    }
-    out.flush()
 }

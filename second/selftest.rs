@@ -3,6 +3,7 @@
 use std::fmt::Debug;
 
 use crate::bench_tests;
+use crate::document::rows;
 use crate::list::{
     analyse, bound, choices, every_choice_below, interferences, largest_by_gains, work_with_carry,
     work_without_carry, Answer, Interference, Refusal, Row,
@@ -41,11 +42,7 @@ pub fn run() -> bool {
     tests.failed == 0
 }
 
-pub fn rows(list: &[(i64, i64, i64)]) -> Vec<Row> {
-    list.iter().map(|&(c, d, t)| Row { c, d, t }).collect()
-}
-
-pub fn refusal(number: u32, place: usize) -> Refusal {
+pub fn refusal(number: u32, place: u64) -> Refusal {
     Refusal { number, place }
 }
 
@@ -69,7 +66,7 @@ fn windows(tests: &mut Tests) {
 }
 
 fn lists(tests: &mut Tests) {
-    let mut shown = |cores: i64, list: &[(i64, i64, i64)], bounds: &[i64]| {
+    let mut shown = |cores: u64, list: &[(u64, u64, u64)], bounds: &[u64]| {
         let given = analyse(cores, &rows(list), 32);
         tests.same(
             &format!("M {cores}, {list:?}"),
@@ -89,7 +86,7 @@ fn lists(tests: &mut Tests) {
     shown(1, &[(1, 1, 1)], &[1]);
     shown(1, &[(1_000_000, 1_000_000, 1_000_000)], &[1_000_000]);
 
-    let mut not_shown = |cores: i64, list: &[(i64, i64, i64)], place: usize, bounds: &[i64]| {
+    let mut not_shown = |cores: u64, list: &[(u64, u64, u64)], place: usize, bounds: &[u64]| {
         let given = analyse(cores, &rows(list), 32);
         tests.same(
             &format!("M {cores}, {list:?}"),
@@ -107,7 +104,7 @@ fn lists(tests: &mut Tests) {
 
 fn list_refusals(tests: &mut Tests) {
     let mut refused =
-        |cores: i64, list: &[(i64, i64, i64)], entries: usize, number: u32, place: usize| {
+        |cores: u64, list: &[(u64, u64, u64)], entries: usize, number: u32, place: u64| {
             let given = analyse(cores, &rows(list), entries);
             let name = format!(
                 "M {cores}, {} rows, {entries} entries, number {number}",
@@ -158,26 +155,32 @@ fn slips(tests: &mut Tests) {
 }
 
 /// Cores and rows that pass 1 to 6, not much heavier than what the cores carry.
-pub fn random_list(random: &mut Random, longest: u64) -> (i64, Vec<Row>) {
-    let cores = random.between(1, 5);
-    let count = random.between(1, 9);
+pub fn random_list(random: &mut Random, longest: u64) -> (u64, Vec<Row>) {
+    random_list_up_to(random, 5, 9, longest)
+}
+
+fn random_list_up_to(
+    random: &mut Random,
+    most_cores: u64,
+    most_rows: u64,
+    longest: u64,
+) -> (u64, Vec<Row>) {
+    let cores = random.between(1, most_cores);
+    let count = random.between(1, most_rows);
+    let whole_gap = random.one_in(2);
     let mut list = Vec::new();
     for _ in 0..count {
         let t = random.between(1, longest);
         let most = (t * cores / count).clamp(1, t);
         let c = random.between(1, most);
-        let d = random.between(c, t);
-        list.push(Row {
-            c: c as i64,
-            d: d as i64,
-            t: t as i64,
-        });
+        let d = if whole_gap { t } else { random.between(c, t) };
+        list.push(Row { c, d, t });
     }
-    (cores as i64, list)
+    (cores, list)
 }
 
 /// The bounds of the rows that are shown.
-pub fn shown_bounds(cores: i64, list: &[Row]) -> Vec<i64> {
+pub fn shown_bounds(cores: u64, list: &[Row]) -> Vec<u64> {
     match analyse(cores, list, 32) {
         Answer::AllShown { bounds } | Answer::NotShown { bounds, .. } => bounds,
         Answer::Refused(refusal) => panic!("a random list is refused: {:?}", refusal),
@@ -195,14 +198,19 @@ fn choices_and_gains(tests: &mut Tests) {
         faults += u64::from(!windows_agree(cores, &list));
     }
     tests.same("choices and gains, lists", faults, 0);
-    for _ in 0..20_000 {
+    for _ in 0..10_000 {
+        let (cores, list) = random_list_up_to(random, 16, 14, 40);
+        faults += u64::from(!windows_agree(cores, &list));
+    }
+    tests.same("choices and gains, longer lists", faults, 0);
+    for _ in 0..10_000 {
         faults += u64::from(!any_numbers_agree(random));
     }
     tests.same("choices and gains, any numbers", faults, 0);
 }
 
 /// Every window of every row whose rows above are all shown.
-fn windows_agree(cores: i64, list: &[Row]) -> bool {
+fn windows_agree(cores: u64, list: &[Row]) -> bool {
     let bounds = shown_bounds(cores, list);
     let carries = cores as usize - 1;
     list.iter()
@@ -220,17 +228,18 @@ fn windows_agree(cores: i64, list: &[Row]) -> bool {
 
 /// Also where a carry-in row would add less than a plain one, which no list of rows gives.
 fn any_numbers_agree(random: &mut Random) -> bool {
-    let mut number = || random.below(20) as i64;
-    let parts: Vec<Interference> = (0..8)
+    let count = random.between(1, 14);
+    let mut number = || random.below(20);
+    let parts: Vec<Interference> = (0..count)
         .map(|_| Interference {
             plain: number(),
             carry: number(),
         })
         .collect();
-    (0..=9).all(|carries| is_largest(&parts, carries, largest_by_gains(&parts, carries)))
+    (0..=15).all(|carries| is_largest(&parts, carries, largest_by_gains(&parts, carries)))
 }
 
 /// Some choice reaches the sum and none goes beyond.
-fn is_largest(parts: &[Interference], carries: usize, sum: i64) -> bool {
+fn is_largest(parts: &[Interference], carries: usize, sum: u64) -> bool {
     every_choice_below(parts, carries, 0, sum + 1) && !every_choice_below(parts, carries, 0, sum)
 }

@@ -48,18 +48,22 @@ pub fn read(sheet: &[u8]) -> Result<Table, Refusal> {
 /// The record that begins at `at`, after the checks that come before its fields: 11, 12, 13, 11.
 fn record_at(sheet: &[u8], at: usize, first: bool) -> Result<&[u8], Refusal> {
     let Some(&kind) = sheet.get(at) else {
-        return refuse(11, sheet.len());
+        return refuse_at(11, sheet.len());
     };
     let Some(length) = record_length(kind) else {
-        return refuse(12, at);
+        return refuse_at(12, at);
     };
     if first != (kind == BOARD) {
-        return refuse(13, at);
+        return refuse_at(13, at);
     }
     match sheet.get(at..at + length) {
         Some(record) => Ok(record),
-        None => refuse(11, at),
+        None => refuse_at(11, at),
     }
+}
+
+fn refuse_at<T>(number: u32, at: usize) -> Result<T, Refusal> {
+    refuse(number, at as u64)
 }
 
 /// The kind byte and the body.
@@ -75,7 +79,7 @@ fn record_length(kind: u8) -> Option<usize> {
 fn read_board(record: &[u8], at: usize) -> Result<Board, Refusal> {
     let (cores, tick) = (record[1], two_bytes(record, 2));
     if tick == 0 {
-        return refuse(19, at);
+        return refuse_at(19, at);
     }
     Ok(Board { cores, tick })
 }
@@ -88,15 +92,15 @@ fn read_row(
 ) -> Result<LabelledRow, Refusal> {
     let (label, priority) = (two_bytes(record, 1), two_bytes(record, 3));
     if before.len() == MOST_ROWS {
-        return refuse(14, at);
+        return refuse_at(14, at);
     }
     if priority == 0 || priority > 999 {
-        return refuse(16, at);
+        return refuse_at(16, at);
     }
     if before.iter().any(|row| row.priority == priority) {
-        return refuse(15, at);
+        return refuse_at(15, at);
     }
-    let ticks = |field: usize| four_bytes(record, field) / i64::from(tick);
+    let ticks = |field: usize| four_bytes(record, field) / u64::from(tick);
     let (c, d, t) = (ticks(5), ticks(9), ticks(13));
     let row = Row { c, d, t };
     Ok(LabelledRow {
@@ -108,11 +112,11 @@ fn read_row(
 
 fn check_end(sheet: &[u8], record: &[u8], at: usize, rows: usize) -> Result<(), Refusal> {
     if usize::from(record[1]) != rows {
-        return refuse(17, at);
+        return refuse_at(17, at);
     }
     let after = at + record.len();
     if sheet.len() > after {
-        return refuse(18, after);
+        return refuse_at(18, after);
     }
     Ok(())
 }
@@ -121,6 +125,6 @@ fn two_bytes(record: &[u8], at: usize) -> u16 {
     u16::from(record[at]) * 256 + u16::from(record[at + 1])
 }
 
-fn four_bytes(record: &[u8], at: usize) -> i64 {
-    i64::from(two_bytes(record, at)) * 65_536 + i64::from(two_bytes(record, at + 2))
+fn four_bytes(record: &[u8], at: usize) -> u64 {
+    u64::from(two_bytes(record, at)) * 65_536 + u64::from(two_bytes(record, at + 2))
 }

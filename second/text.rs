@@ -8,12 +8,12 @@ pub const MOST_BYTES: usize = 1_024;
 pub enum Outcome {
     AllShown {
         table: Table,
-        bounds: Vec<i64>,
+        bounds: Vec<u64>,
     },
     NotShown {
         table: Table,
         place: usize,
-        bounds: Vec<i64>,
+        bounds: Vec<u64>,
     },
     Refused(Refusal),
 }
@@ -25,7 +25,7 @@ pub fn outcome(input: &[u8]) -> Outcome {
         Err(refusal) => return Outcome::Refused(refusal),
     };
     let rows: Vec<Row> = table.rows.iter().map(|row| row.row).collect();
-    match analyse(i64::from(table.cores), &rows, MOST_ROWS) {
+    match analyse(u64::from(table.cores), &rows, MOST_ROWS) {
         Answer::AllShown { bounds } => Outcome::AllShown { table, bounds },
         Answer::NotShown { place, bounds } => Outcome::NotShown {
             table,
@@ -68,7 +68,7 @@ fn first_line(table: &Table) -> String {
 }
 
 /// One line for each row that has a bound.
-fn row_lines(table: &Table, bounds: &[i64]) -> String {
+fn row_lines(table: &Table, bounds: &[u64]) -> String {
     let mut lines = String::new();
     for (index, (row, bound)) in table.rows.iter().zip(bounds).enumerate() {
         lines += &format!("{} {} {} {}\n", index + 1, row.label, bound, row.row.d);
