@@ -14,6 +14,9 @@ mod frames;
 mod histories;
 mod history_cases;
 mod list;
+mod list_cases;
+mod list_tests;
+mod lists;
 mod numbers;
 mod random;
 mod row_lists;
@@ -37,13 +40,17 @@ second frames SEED COUNT
 second answers
 second histories SEED COUNT PROGRAM [ARG..]
 second history-frames SEED COUNT
-second history-answers";
+second history-answers
+second lists SEED COUNT PROGRAM [ARG..]
+second list-frames SEED COUNT
+second list-answers";
 
 fn main() -> ExitCode {
     let arguments: Vec<String> = std::env::args().skip(1).collect();
     let done_well = own_command(&arguments)
         .or_else(|| command_of::<sheets::Sheets>(&arguments))
-        .or_else(|| command_of::<histories::Histories>(&arguments));
+        .or_else(|| command_of::<histories::Histories>(&arguments))
+        .or_else(|| command_of::<lists::Lists>(&arguments));
     match done_well {
         Some(true) => ExitCode::SUCCESS,
         Some(false) => ExitCode::FAILURE,

@@ -8,6 +8,7 @@ use crate::list::{
     analyse, bound, choices, every_choice_below, interferences, largest_by_gains, work_with_carry,
     work_without_carry, Answer, Interference, Refusal, Row,
 };
+use crate::list_tests;
 use crate::random::Random;
 use crate::sheet_tests;
 
@@ -36,6 +37,7 @@ pub fn run() -> bool {
     list_refusals(&mut tests);
     slips(&mut tests);
     choices_and_gains(&mut tests);
+    list_tests::run(&mut tests);
     sheet_tests::run(&mut tests);
     bench_tests::run(&mut tests);
     println!("{} passed, {} failed", tests.passed, tests.failed);
