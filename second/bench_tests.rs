@@ -1,7 +1,10 @@
 // The self-test's benches: by hand, with each refusal, broken ones, and random histories.
 
-use crate::bench::{Bench, Finish, LAST_INSTANT};
+use crate::bench::{Bench, Clause, Finish, LAST_INSTANT};
+use crate::bench_cases::in_mid_run;
+use crate::break_bench::{break_clause, edges_kept, CLAUSES};
 use crate::document::rows;
+use crate::lent_bench::{read_bench, released_at, write_bench, BENCH};
 use crate::list::Row;
 use crate::random::Random;
 use crate::selftest::{random_list, refusal, shown_bounds, Tests};
@@ -10,6 +13,8 @@ pub fn run(tests: &mut Tests) {
     bench_by_hand(tests);
     bench_refusals(tests);
     broken_benches(tests);
+    clauses(tests);
+    benches_in_bytes(tests);
     random_benches(tests);
 }
 
@@ -160,6 +165,48 @@ fn broken_benches(tests: &mut Tests) {
         tests.same(name, bench.release(9, 0), Err(refusal(29, 0)));
         tests.same(name, bench.tick(), Err(refusal(29, 0)));
         tests.same(name, bench, before);
+    }
+}
+
+/// Each way to break a clause of number 29 breaks that clause alone, and the edges break none.
+fn clauses(tests: &mut Tests) {
+    let wanted = [
+        Clause::Table(1),
+        Clause::Table(1),
+        Clause::Table(2),
+        Clause::Table(2),
+        Clause::Instant,
+        Clause::Table(3),
+        Clause::Table(4),
+        Clause::Table(5),
+        Clause::Table(6),
+        Clause::LastRelease,
+        Clause::Demand,
+        Clause::Remainder,
+        Clause::NeverReleased,
+    ];
+    for (which, clause) in (0..CLAUSES).zip(wanted) {
+        for (index, far) in [(0, 0), (1, 0), (2, 1 << 32), (2, u64::MAX)] {
+            let mut bench = in_mid_run();
+            break_clause(&mut bench, which, index, far);
+            tests.same("a clause is broken", bench.broken(), vec![clause]);
+        }
+    }
+    for bench in edges_kept(&in_mid_run()) {
+        tests.same("an edge is kept", bench.broken(), vec![]);
+    }
+}
+
+/// A bench comes out of its bytes as it went in, with what stands past its table.
+fn benches_in_bytes(tests: &mut Tests) {
+    let bytes: Vec<u8> = (0..BENCH).map(|at| at as u8).collect();
+    for count in [0, 1, 31, 32, 33, 65_535] {
+        let mut bytes = bytes.clone();
+        bytes[12..14].copy_from_slice(&(count as u16).to_be_bytes());
+        (0..32).for_each(|index| bytes[released_at(index)] = 1);
+        let lent = read_bench(&bytes);
+        tests.same("rows of a bench", lent.bench.rows.len(), count);
+        tests.same("a bench in bytes", write_bench(&lent), bytes);
     }
 }
 

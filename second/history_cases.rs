@@ -17,8 +17,7 @@ pub fn history(seed: u64, index: u64) -> Vec<u8> {
     if random.one_in(60) {
         return too_short(&mut random);
     }
-    let cores = cores(&mut random);
-    let rows = rows(&mut random);
+    let (cores, rows) = board(&mut random);
     let mut bytes = front(cores, &rows);
     let mut calls = calls(&mut random, cores, &rows);
     if random.one_in(20) {
@@ -26,6 +25,11 @@ pub fn history(seed: u64, index: u64) -> Vec<u8> {
     }
     bytes.extend(calls);
     bytes
+}
+
+/// Cores and rows, most of them sound.
+pub fn board(random: &mut Random) -> (u8, Vec<Row>) {
+    (cores(random), rows(random))
 }
 
 /// The document's bench by hand, and each ending, fault of an opening and answer to a call.

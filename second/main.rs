@@ -1,7 +1,10 @@
 // The commands: answer and selftest, the desk's own command, and three for each kind of case.
 
 mod bench;
+mod bench_cases;
 mod bench_tests;
+mod benches;
+mod break_bench;
 mod cases;
 mod compare;
 mod damage;
@@ -13,6 +16,7 @@ mod fixed_sheets;
 mod frames;
 mod histories;
 mod history_cases;
+mod lent_bench;
 mod list;
 mod list_cases;
 mod list_tests;
@@ -43,14 +47,18 @@ second history-frames SEED COUNT
 second history-answers
 second lists SEED COUNT PROGRAM [ARG..]
 second list-frames SEED COUNT
-second list-answers";
+second list-answers
+second benches SEED COUNT PROGRAM [ARG..]
+second bench-frames SEED COUNT
+second bench-answers";
 
 fn main() -> ExitCode {
     let arguments: Vec<String> = std::env::args().skip(1).collect();
     let done_well = own_command(&arguments)
         .or_else(|| command_of::<sheets::Sheets>(&arguments))
         .or_else(|| command_of::<histories::Histories>(&arguments))
-        .or_else(|| command_of::<lists::Lists>(&arguments));
+        .or_else(|| command_of::<lists::Lists>(&arguments))
+        .or_else(|| command_of::<benches::Benches>(&arguments));
     match done_well {
         Some(true) => ExitCode::SUCCESS,
         Some(false) => ExitCode::FAILURE,
