@@ -16,22 +16,34 @@ const MOST_CALLS: u64 = 150;
 const LONGEST_RUN: u64 = 100_000;
 
 /// The document's bench by hand, the last instants, long responses, and each clause of number 29 kept
-/// and broken, in the first row and in the last.
+/// and broken.
 pub fn fixed() -> Vec<Vec<u8>> {
     let mut cases = vec![by_hand(), long_poll(), last_instants()];
-    for bench in edges_kept(&in_mid_run()) {
-        cases.push(called_in_each_way(bench));
-    }
-    for which in 0..CLAUSES {
-        for index in [0, 2] {
-            for far in [0, u64::from(u32::MAX), u64::MAX] {
-                let mut bench = in_mid_run();
-                break_clause(&mut bench, which, index, far);
-                cases.push(called_in_each_way(bench));
-            }
+    let mut benches = edges_kept(&in_mid_run());
+    benches.push(full_in_mid_run());
+    benches.extend((0..CLAUSES).flat_map(broken_in_clause));
+    cases.extend(benches.into_iter().map(called_in_each_way));
+    cases
+}
+
+/// A clause broken in the first row, in the last one, and in the 32nd, by one and by far; and at the
+/// last instant, where a tick has two reasons to be turned away.
+fn broken_in_clause(which: u64) -> Vec<Bench> {
+    let mut at_the_end = in_mid_run();
+    at_the_end.instant = LAST_INSTANT;
+    break_clause(&mut at_the_end, which, 0, 0);
+    let mut benches = vec![at_the_end];
+    for far in [0, u64::from(u32::MAX), u64::MAX] {
+        for (mut bench, index) in [
+            (in_mid_run(), 0),
+            (in_mid_run(), 2),
+            (full_in_mid_run(), MOST_ROWS - 1),
+        ] {
+            break_clause(&mut bench, which, index, far);
+            benches.push(bench);
         }
     }
-    cases
+    benches
 }
 
 fn bytes(lent: &LentBench, calls: &[Call]) -> Vec<u8> {
@@ -123,17 +135,31 @@ pub fn in_mid_run() -> Bench {
     bench
 }
 
+/// The same with 32 rows.
+pub fn full_in_mid_run() -> Bench {
+    let mut bench = in_mid_run();
+    bench.rows.resize(MOST_ROWS, bench.rows[1]);
+    bench
+}
+
+/// Calls that are turned away for their place or demand come first, while the rows could be polled.
 fn called_in_each_way(bench: Bench) -> Vec<u8> {
     let past = bench.rows.len() as u64 + 1;
+    let far = 1 << 32;
     let mut calls = Vec::new();
-    for place in [2, 1, 3, 0, past, 33] {
+    for place in [0, past, 33, 256, 258, far, far + 2, u64::MAX] {
+        calls.push(release(place, 1));
+    }
+    for demand in [0, 3, 256, 257, far, far + 1, u64::MAX] {
+        calls.push(release(2, demand));
+    }
+    for place in [2, 1, 3, 32] {
         calls.extend([release(place, 1), Call::Tick]);
     }
-    for demand in [0, 5, 1 << 32, u64::MAX] {
-        calls.extend([release(1, demand), Call::Run { ticks: 5 }]);
-    }
-    calls.extend([release(1, 1), Call::Tick]);
-    bytes(&lent(bench), &calls)
+    calls.extend([Call::Run { ticks: 5 }, release(1, 1), Call::Tick]);
+    let mut lent = lent(bench);
+    fill_with_noise(&mut Random::new(29), &mut lent);
+    bytes(&lent, &calls)
 }
 
 /// Case number `index` of a seed, as a frame's bytes.
@@ -142,9 +168,7 @@ pub fn case(seed: u64, index: u64) -> Vec<u8> {
     let bench = bench(random);
     let mut lent = lent(bench);
     if random.one_in(2) {
-        lent.past
-            .iter_mut()
-            .for_each(|entry| *entry = noise(random));
+        fill_with_noise(random, &mut lent);
     }
     let calls = calls(random, lent.bench.clone());
     let mut bytes = bytes(&lent, &calls);
@@ -227,11 +251,21 @@ fn last_release(random: &mut Random, row: Row, instant: u64) -> Option<u64> {
 fn break_some(random: &mut Random, bench: &mut Bench, times: u64) {
     for _ in 0..times {
         let which = random.below(CLAUSES);
-        let index = random.index(bench.rows.len().max(1));
+        let last = bench.rows.len().max(1) - 1;
+        let index = if random.one_in(3) {
+            last
+        } else {
+            random.index(last + 1)
+        };
         let by_far = random.pick(&[1, 255, u64::from(u32::MAX), (1 << 63) - 1, u64::MAX]);
         let far = if random.one_in(2) { 0 } else { by_far };
         break_clause(bench, which, index, far);
     }
+}
+
+fn fill_with_noise(random: &mut Random, lent: &mut LentBench) {
+    let fill = |entry: &mut BenchRow| *entry = noise(random);
+    lent.past.iter_mut().for_each(fill);
 }
 
 /// An entry past the table: nothing of it is looked at.

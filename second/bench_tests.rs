@@ -1,7 +1,7 @@
 // The self-test's benches: by hand, with each refusal, broken ones, and random histories.
 
 use crate::bench::{Bench, Clause, Finish, LAST_INSTANT};
-use crate::bench_cases::in_mid_run;
+use crate::bench_cases::{full_in_mid_run, in_mid_run};
 use crate::break_bench::{break_clause, edges_kept, CLAUSES};
 use crate::document::rows;
 use crate::lent_bench::{read_bench, released_at, write_bench, BENCH};
@@ -190,6 +190,9 @@ fn clauses(tests: &mut Tests) {
             let mut bench = in_mid_run();
             break_clause(&mut bench, which, index, far);
             tests.same("a clause is broken", bench.broken(), vec![clause]);
+            let mut bench = full_in_mid_run();
+            break_clause(&mut bench, which, 31, far);
+            tests.same("and in the 32nd row", bench.broken(), vec![clause]);
         }
     }
     for bench in edges_kept(&in_mid_run()) {

@@ -18,12 +18,30 @@ pub fn fixed() -> Vec<Vec<u8>> {
             cases.push(bytes(&list, entries));
         }
     }
+    cases.extend(last_row_at_fault().iter().map(|list| bytes(list, 32)));
     cases.extend(
         turned_away()
             .iter()
             .map(|(list, entries)| bytes(list, *entries)),
     );
     cases
+}
+
+/// Only the 32nd row is at fault, with each number of a row, or is not shown.
+fn last_row_at_fault() -> Vec<RowList> {
+    let faults = [
+        (0, 1, 1),
+        (2, 1, 2),
+        (1, 2, 1),
+        (1, 2, 1_000_001),
+        (1, 2, 2),
+    ];
+    let with_last = |fault: &(u64, u64, u64)| {
+        let mut rows = vec![(1, 4, 4); 31];
+        rows.push(*fault);
+        document::list(8, &rows)
+    };
+    faults.iter().map(with_last).collect()
 }
 
 fn turned_away() -> Vec<(RowList, u64)> {
@@ -33,6 +51,7 @@ fn turned_away() -> Vec<(RowList, u64)> {
         (document::list(17, &[(1, 1, 1); 32]), 0),
         (document::list(1, &[(0, 0, 0); 40]), 40),
         (document::list(u64::from(u32::MAX), &[(1, 1, 1)]), 1),
+        (document::list(65_537, &[(1, 1, 1)]), 1),
         (document::list(257, &[(1, 1, 1)]), 1),
         (document::list(16, &[(1, 1, 1); 32]), 31),
         (document::list(16, &[(1, 1, 1); 32]), 32),
