@@ -26,33 +26,30 @@ struct Given {
 pub fn compare(seed: u64, count: u64, program: &str, arguments: &[String]) -> bool {
     let cases = written(seed, count);
     let outcomes: Vec<Outcome> = cases.iter().map(|case| outcome(&case.sheet)).collect();
-    let check = |from: usize| -> bool {
-        let own = (from..cases.len()).step_by(WORKERS);
-        own.into_iter().all(|index| {
-            let wanted = wanted(&outcomes[index]);
-            is_same(
-                index,
-                &cases[index],
-                &wanted,
-                run(program, arguments, &cases[index]),
-            )
-        })
+    let is_same = |index: usize| {
+        let given = run(program, arguments, &cases[index]);
+        is_same(index, &cases[index], &wanted(&outcomes[index]), given)
     };
-    let all_same = thread::scope(|scope| {
-        let workers: Vec<_> = (0..WORKERS)
-            .map(|from| scope.spawn(move || check(from)))
-            .collect();
-        let ended: Vec<bool> = workers
-            .into_iter()
-            .map(|worker| worker.join().is_ok_and(|same| same))
-            .collect();
-        ended.iter().all(|&same| same)
-    });
+    if !all_in_shares(cases.len(), is_same) {
+        return false;
+    }
     let mut tally = Tally::requiring(&sheets::required());
-    outcomes
-        .iter()
-        .for_each(|outcome| sheets::count(&mut tally, outcome));
-    all_same && conclude("desk", &tally, cases.len())
+    for outcome in &outcomes {
+        sheets::count(&mut tally, outcome);
+    }
+    conclude("desk", &tally, cases.len())
+}
+
+/// Whether it holds for each index below `count`. Each worker takes its share and stops at the first
+/// for which it doesn't.
+fn all_in_shares(count: usize, holds: impl Fn(usize) -> bool + Sync) -> bool {
+    let share = |from: usize| (from..count).step_by(WORKERS).all(&holds);
+    thread::scope(|scope| {
+        let start = |from| scope.spawn(move || share(from));
+        let workers: Vec<_> = (0..WORKERS).map(start).collect();
+        let hold = |worker: thread::ScopedJoinHandle<bool>| worker.join().is_ok_and(|hold| hold);
+        workers.into_iter().all(hold)
+    })
 }
 
 /// Status 0 where all rows are shown, 1 where one is not, 2 where the sheet is refused.

@@ -21,13 +21,11 @@ pub fn written(seed: u64, count: u64) -> Vec<Written> {
     sheets.extend((MOST_BYTES - 1..=1_100).map(long_sheet));
     sheets.extend((0..count).map(|index| cases::sheet(seed, index)));
     let random = &mut Random::new(seed);
-    (0..)
-        .zip(sheets)
-        .map(|(index, sheet)| Written {
-            pieces: pieces(random, index, sheet.len()),
-            sheet,
-        })
-        .collect()
+    let in_pieces = |sheet: Vec<u8>| Written {
+        pieces: pieces(random, sheet.len()),
+        sheet,
+    };
+    sheets.into_iter().map(in_pieces).collect()
 }
 
 /// Rows that are all shown on 16 cores, as many as wanted.
@@ -74,11 +72,12 @@ fn followed_by_another(filling: u8) -> Vec<u8> {
     sheet
 }
 
-/// Whole, in a few pieces, or byte after byte where the sheet is short.
-fn pieces(random: &mut Random, index: usize, length: usize) -> Vec<usize> {
-    match index % 3 {
+/// Whole, in a few pieces, byte after byte where the sheet is short, or cut where the reading ends.
+fn pieces(random: &mut Random, length: usize) -> Vec<usize> {
+    match random.below(3) {
         0 => vec![length],
         1 if length <= 60 => vec![1; length],
+        1 if length > MOST_BYTES => vec![MOST_BYTES, length - MOST_BYTES],
         _ => few_pieces(random, length),
     }
 }
