@@ -13,7 +13,10 @@ use crate::text::{outcome, text, Outcome};
 
 /// So many processes run at a time.
 const WORKERS: usize = 2;
-const PAUSE: Duration = Duration::from_millis(3);
+/// How long a program may take until it reads, and how long the pauses of one sheet are together. A
+/// slower program reads several pieces at once, and its answer is the same.
+const START: Duration = Duration::from_millis(200);
+const PAUSE: Duration = Duration::from_millis(120);
 
 /// What a process gives for a sheet; no status if it was ended from outside.
 #[derive(PartialEq, Eq)]
@@ -78,14 +81,14 @@ fn run(program: &str, arguments: &[String], case: &Written) -> Result<Given> {
     Ok(Given { text, status })
 }
 
-/// The program may stop reading before the end, so that a write that is not taken is no fault. The
-/// pause after a piece lets the program read it alone. The input is closed at the end.
+/// The program may stop reading before the end, so that a write that is not taken is no fault. A sheet
+/// in pieces comes when the program is likely to wait for it, and the pause after a piece lets the
+/// program read it alone. The input is closed at the end.
 fn write_pieces(mut input: ChildStdin, case: &Written) {
-    let pause = if case.pieces.len() > 4 {
-        PAUSE / 10
-    } else {
-        PAUSE
-    };
+    if case.pieces.len() > 1 {
+        thread::sleep(START);
+    }
+    let pause = PAUSE / case.pieces.len() as u32;
     let mut rest = &case.sheet[..];
     for &length in &case.pieces {
         let (piece, after) = rest.split_at(length);

@@ -72,13 +72,14 @@ fn followed_by_another(filling: u8) -> Vec<u8> {
     sheet
 }
 
-/// Whole, in a few pieces, byte after byte where the sheet is short, or cut where the reading ends.
+/// Mostly whole, since pieces take time; in a few pieces, byte after byte where the sheet is short, or
+/// cut where the reading ends.
 fn pieces(random: &mut Random, length: usize) -> Vec<usize> {
-    match random.below(3) {
-        0 => vec![length],
-        1 if length <= 60 => vec![1; length],
-        1 if length > MOST_BYTES => vec![MOST_BYTES, length - MOST_BYTES],
-        _ => few_pieces(random, length),
+    match random.below(16) {
+        0 if length <= 60 => vec![1; length],
+        0 if length > MOST_BYTES => vec![MOST_BYTES, length - MOST_BYTES],
+        0 | 1 => few_pieces(random, length),
+        _ => vec![length],
     }
 }
 
