@@ -1,0 +1,2 @@
+-- A bench in a local, as it is lent and had back.
+pub mod Local
