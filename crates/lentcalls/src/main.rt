@@ -1,4 +1,4 @@
-// Lends benches from standard input to calls, and writes the answers and the benches, for a comparison.
+// Lends benches from standard input to calls, and writes the answers and the benches: second/README.md has the bytes.
 use bench::Bench;
 use bench::Outcome;
 use bench::Released;
