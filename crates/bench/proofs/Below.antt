@@ -167,6 +167,21 @@ module _ (k : ℕ) (b b' : Bench) (a : Alike k b b') where
 tall-call : (k : ℕ) (b : Bench) (call : Call) → k ≤ length (rows b) → k ≤ length (rows (doCall b call .bench))
 tall-call k b call h = rw (same-rows b call) h
 
+unconcerned-alike : (k : ℕ) (b b' : Bench) (call : Call) → concerns k call ≡ false → Alike k b b' → Alike k (doCall b call .bench) b'
+unfolding concerns
+unconcerned-alike k b b' call c a =
+    record {
+      agree = left call c;
+      kept = kept-call b call (a .kept);
+      kept' = a .kept';
+      tall = tall-call k b call (a .tall);
+      tall' = a .tall';
+    }
+  where
+    left : (one : Call) → concerns k one ≡ false → Agree k (doCall b one .bench) b'
+    left (releases place demand) c = other-alike k b b' a place demand c
+    left ticks c = let z : _≡_ {A = ℕ} 0 1 = cc in absurd (omega arith)
+
 concerned-alike : (k : ℕ) (b b' : Bench) (call : Call) → concerns k call ≡ true → Alike k b b'
     → Alike k (doCall b call .bench) (doCall b' call .bench) × (heardOf k (doCall b call) ≡ heardOf k (doCall b' call))
 unfolding concerns
@@ -186,21 +201,6 @@ concerned-alike k b b' call c a = let (same, told) = both call c in (
         let (low, high) = and-true (ltb 0 place) (leb place k) c in
         release-alike k b b' a place demand (ltb-true 0 place low) (leb-true place k high)
     both ticks c = tick-alike k b b' a
-
-unconcerned-alike : (k : ℕ) (b b' : Bench) (call : Call) → concerns k call ≡ false → Alike k b b' → Alike k (doCall b call .bench) b'
-unfolding concerns
-unconcerned-alike k b b' call c a =
-    record {
-      agree = left call c;
-      kept = kept-call b call (a .kept);
-      kept' = a .kept';
-      tall = tall-call k b call (a .tall);
-      tall' = a .tall';
-    }
-  where
-    left : (one : Call) → concerns k one ≡ false → Agree k (doCall b one .bench) b'
-    left (releases place demand) c = other-alike k b b' a place demand c
-    left ticks c = let z : _≡_ {A = ℕ} 0 1 = cc in absurd (omega arith)
 
 pub history-alike : (k : ℕ) (calls : List Call) (b b' : Bench) → Alike k b b'
     → Alike k (after b calls) (after b' (callsTo k calls)) × (heard k b calls ≡ heard k b' (callsTo k calls))

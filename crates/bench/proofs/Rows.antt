@@ -4,7 +4,7 @@ use native.Mathlib.Nat.{sub-zero}
 use native.Mathlib.Omega.{arith}
 use mathlib.Core.Path.{_≡_, refl, sym, _∙_}
 use mathlib.Core.Bool.{Bool, true, false, _||_}
-use lib.Dec.{eqb, ltb}
+use lib.Dec.{eqb}
 use borrow.Author.Tests.{eq-eqb, ne-eqb, lt-ltb, le-ltb}
 use Rattle.quantities.specs.declared.Instant.{Instant}
 use Rattle.bench.specs.declared.Last.{Last}
@@ -12,18 +12,17 @@ use Rattle.bench.specs.declared.Last.the-variants.{Never, At}
 use Rattle.bench.specs.declared.RowState.{RowState}
 use Rattle.bench.specs.declared.Turn.{Turn}
 use Rattle.bench.specs.Record.{work, lastBroken}
-use Rattle.bench.specs.Refusal.{tooSoon}
 use Rattle.bench.specs.Serving.{unit, less, ends, since, turnOf}
 
--- The ticks since a last release that is not before an instant are none.
+-- The ticks since a last release lead from it to the instant.
+pub since-release : (instant : ℕ) (at : Instant) → at .0 ≤ instant → at .0 + since instant (At at) ≡ instant
+unfolding since
+since-release instant at past = omega arith
+
+-- Since a release that is after the instant there are none.
 pub since-later : (instant : ℕ) (last : Last) (at : Instant) → last ≡ At at → instant < at .0 → since instant last ≡ 0
 unfolding since
 since-later instant last at e h = rw e (omega arith)
-
--- A release after the instant is too soon for every gap but none.
-pub too-soon-later : (now gap : ℕ) (last : Last) (at : Instant) → last ≡ At at → now < at .0 → tooSoon now gap last ≡ ltb 0 gap
-unfolding tooSoon
-too-soon-later now gap last at e h = let z : now - at .0 ≡ 0 = omega arith in rw (e, z)
 
 -- What a row gets: nothing without a free core or without work, else one unit.
 pub unit-no-core : (left : ℕ) → unit 0 left ≡ 0

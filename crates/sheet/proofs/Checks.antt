@@ -5,7 +5,7 @@ use mathlib.Core.Path.{_≡_, refl, sym, _∙_}
 use mathlib.Core.Bool.{Bool, true, false}
 use mathlib.Core.List.{List, [], _∷_}
 use lib.Dec.{eqb, ltb}
-use borrow.Author.Tests.{eq-eqb, ne-eqb, le-ltb, lt-leb, eqb-true, eqb-false, leb-false, ltb-false, not-false}
+use borrow.Author.Tests.{eq-eqb, ne-eqb, le-ltb, le-leb, lt-leb, eqb-true, eqb-false, leb-false, ltb-false, not-false}
 use Rattle.laws.proofs.Tests.{or-false}
 use Rattle.quantities.specs.Limits.{rowCapacity}
 use Rattle.quantities.specs.Checks.{Check, check, firstFailing}
@@ -104,6 +104,12 @@ sound-first number place fails rest s = go fails refl
     go : (b : Bool) → fails ≡ b → (fails ≡ false) × (verdictOf rest ≡ Sound)
     go true e = absurd (sound-not-refused number place (sym (verdict-fails number place fails rest e) ∙ s))
     go false e = (e, sym (verdict-passes number place fails rest e) ∙ s)
+
+-- a 33rd row record is refused by 14, whatever stands in its box
+pub row-beyond : (at : ℕ) (sheet : Sheet) (priority : ℕ) → rowCapacity ≤ sheet .count
+    → verdictOf (rowChecks at sheet priority) ≡ Refused 14 at
+unfolding rowChecks
+row-beyond at sheet priority full = verdict-fails 14 at _ _ (le-leb rowCapacity (sheet .count) full)
 
 -- a row record is sound exactly where there is room for it, its priority is 1 to 999, and no row has it
 pub record SoundRow (sheet : Sheet) (priority : ℕ) : Type 0 where

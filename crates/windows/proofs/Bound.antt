@@ -7,11 +7,17 @@ use mathlib.Core.Option.{Option, none, some}
 use native.Mathlib.Omega.{arith}
 use Rattle.quantities.specs.declared.Row.{Row}
 use Rattle.quantities.specs.Row.{cost, deadline, gap}
-use Rattle.windows.specs.Choice.{Bounded, bounded, InRange, Passes, passes}
-use Rattle.windows.specs.Least.{IsLeast, NoneIn}
+use Rattle.windows.specs.Window.{limit}
+use Rattle.windows.specs.Choice.{Bounded, bounded, InRange, Passes, most, passes}
+use Rattle.windows.specs.Least.{firstOf, least, IsLeast, NoneIn}
 use Rattle.windows.specs.Bound.{window, boundOf, boundsBelow}
 use Rattle.windows.proofs.Choice.{passes-means}
 use Rattle.windows.proofs.Least.{Outcome, outcome-some, outcome-none, outcome-agrees, least-is}
+
+-- A row with cost 3 and nothing above has the bound 3: no shorter window is tried, though 0 would pass.
+alone-takes-its-cost : window 1 3 5 [] ≡ some 3
+unfolding limit most passes firstOf least window
+alone-takes-its-cost = refl
 
 -- an answer is the window exactly when it tells what is so of every choice
 pub window-is : (M own top : ℕ) (above : List Bounded) (o : Option ℕ)
@@ -36,7 +42,7 @@ window-none M own top above = Iff·trans (window-is M own top above none) outcom
 pub bound-in-range : (M r : ℕ) (above : List Bounded) (row : Row) → 1 ≤ cost row → deadline row ≤ gap row
     → boundOf M above row ≡ some r → InRange (bounded row r)
 bound-in-range M r above row works short is-bound =
-    let is-least = window-some M (cost row) (deadline row) above r .0 is-bound in
+    let is-least = window-some M (cost row) _ above r .0 is-bound in
     record { works = works; low = is-least .low; high = omega arith }
 
 -- one row of the walk: it has a bound and the rows below go on, or it has none and the bounds end

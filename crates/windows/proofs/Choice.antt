@@ -10,9 +10,9 @@ use native.Mathlib.Nat.{div-lt-iff-lt-mul}
 use lib.Dec.{T, ltb→lt, lt→ltb}
 use lib.ListN.{length}
 use Rattle.laws.specs.Each.{Each}
-use Rattle.quantities.specs.Row.{cost, gap}
-use Rattle.windows.specs.Window.{plain, carry, limit}
-use Rattle.windows.specs.Choice.{Bounded, Load, load, loads, carriers, total, Passes, most, passes}
+use Rattle.quantities.specs.Row.{cost, gap, rowOf}
+use Rattle.windows.specs.Window.{plain, carry, limit, interference}
+use Rattle.windows.specs.Choice.{Bounded, bounded, Load, load, loads, carriers, total, Passes, most, passes}
 use Rattle.windows.proofs.Window.{interference-le-limit}
 
 -- A choice that speaks of each row, with at most m carriers, and adds up to the most.
@@ -21,17 +21,6 @@ pub record Attains (ls : List Load) (m : ℕ) : Type 0 where
   pub each : length choice ≡ length ls
   pub few : carriers choice ≤ m
   pub all : total ls choice ≡ most ls m
-
--- no choice with at most m carriers adds up to more
-pub total-le-most : (ls : List Load) (choice : List Bool) (m : ℕ) → carriers choice ≤ m → total ls choice ≤ most ls m
-unfolding most
-total-le-most [] choice m few = omega arith
-total-le-most (l ∷ ls) [] zero few = omega (arith, total-le-most ls [] zero few)
-total-le-most (l ∷ ls) [] (suc m) few = omega (arith, total-le-most ls [] (suc m) few)
-total-le-most (l ∷ ls) (false ∷ choice) zero few = omega (arith, total-le-most ls choice zero few)
-total-le-most (l ∷ ls) (false ∷ choice) (suc m) few = omega (arith, total-le-most ls choice (suc m) few)
-total-le-most (l ∷ ls) (true ∷ choice) zero few = absurd (omega arith)
-total-le-most (l ∷ ls) (true ∷ choice) (suc m) few = omega (arith, total-le-most ls choice m (omega arith))
 
 -- the row in front does not carry in
 attained-without : (l : Load) {ls : List Load} {m : ℕ} → Attains ls m
@@ -55,6 +44,17 @@ attained (l ∷ ls) (suc m) =
       | yes h ↦ attained-without l (attained ls (suc m)) (omega arith)
       | no h ↦ attained-carrying l (attained ls m) (omega arith)
     ]
+
+-- no choice with at most m carriers adds up to more
+pub total-le-most : (ls : List Load) (choice : List Bool) (m : ℕ) → carriers choice ≤ m → total ls choice ≤ most ls m
+unfolding most
+total-le-most [] choice m few = omega arith
+total-le-most (l ∷ ls) [] zero few = omega (arith, total-le-most ls [] zero few)
+total-le-most (l ∷ ls) [] (suc m) few = omega (arith, total-le-most ls [] (suc m) few)
+total-le-most (l ∷ ls) (false ∷ choice) zero few = omega (arith, total-le-most ls choice zero few)
+total-le-most (l ∷ ls) (false ∷ choice) (suc m) few = omega (arith, total-le-most ls choice (suc m) few)
+total-le-most (l ∷ ls) (true ∷ choice) zero few = absurd (omega arith)
+total-le-most (l ∷ ls) (true ∷ choice) (suc m) few = omega (arith, total-le-most ls choice m (omega arith))
 
 -- a load for each row
 length-loads : (own x : ℕ) (above : List Bounded) → length (loads own x above) ≡ length above
@@ -121,6 +121,12 @@ unfolding most
 most-gain gain [] m each = omega arith
 most-gain gain (l ∷ ls) zero each = omega (arith, most-gain gain ls zero (each .1))
 most-gain gain (l ∷ ls) (suc m) each = omega (arith, most-gain gain ls m (each .1), most-gain gain ls (suc m) (each .1))
+
+-- The row of document 01 with C 2, T 6, R 3, here with D 4, takes 2 ticks with carry-in in a window of 5. With D or T
+-- where its bound R belongs it would take 3.
+carries-to-its-bound : load 2 5 (bounded (rowOf 2 4 6) 3) ≡ record { without = 2; carrying = 2 }
+unfolding plain carry limit interference
+carries-to-its-bound = refl
 
 -- no row takes more than the limit
 load-le-limit : (own x : ℕ) (b : Bounded)

@@ -13,7 +13,7 @@ use Rattle.quantities.specs.Row.{cost, gap, rowOf}
 use Rattle.windows.specs.Window.{plain, carry, limit, interference}
 use Rattle.windows.specs.Choice.{Bounded, bounded, InRange, load, loads, Passes, most, passes}
 use Rattle.windows.specs.Jump.{next, room, rooms, roomy, leastRoom, stride, reach}
-use Rattle.windows.proofs.Window.{plain-runs, carry-mono, interference-le-work}
+use Rattle.windows.proofs.Window.{plain-le-polls, plain-runs, carry-mono, interference-le-work}
 use Rattle.windows.proofs.Choice.{passes-means}
 use Rattle.windows.proofs.Least.{NoneBefore}
 use Rattle.windows.proofs.Jump.{jump}
@@ -25,12 +25,7 @@ interference-grows : (own x δ work work′ top space : ℕ) → own ≤ x → i
 unfolding interference limit
 interference-grows own x δ work work′ top space low fits grown = omega arith
 
--- without carry-in a row has worked no more than its polls so far, with the present one
-pub plain-le-polls : (c t x : ℕ) → plain c t x ≤ x / t * c + c
-unfolding plain
-plain-le-polls c t x = omega arith
-
--- and it works on until its present poll is over
+-- without carry-in a row works on until its present poll is over
 plain-grows : (c t x δ : ℕ) → 0 < t → min (x / t * c + c) (plain c t x + δ) ≤ plain c t (x + δ)
 unfolding plain
 plain-grows c t x δ positive =

@@ -46,7 +46,8 @@ before-on {mid = mid} behind ahead y low less holds =
 
 pub before-least : {P : ℕ → Type 0} {from to x : ℕ}
     → from ≤ x → x ≤ to → NoneBefore P from x → P x → IsLeast P from to x
-before-least low high before holds = record { low = low; high = high; holds = holds; first = before }
+before-least low high before holds =
+    record { low = low; high = high; holds = holds; first = λ y above less. before y (omega arith) less }
 
 pub before-none : {P : ℕ → Type 0} {from to x : ℕ} → to < x → NoneBefore P from x → NoneIn P from to
 before-none over before y low high = before y low (omega arith)
@@ -67,21 +68,21 @@ widen {mid = mid} from far before (found {x} least-on) =
       holds = least-on .holds;
       first = λ y low less holds.
           elim (decLt y mid)
-          [ yes l ↦ before y low l holds | no l ↦ least-on .first y (omega arith) less holds ];
+          [ yes l ↦ before y (omega arith) l holds | no l ↦ least-on .first y (omega arith) less holds ];
     })
 
 -- properties that agree from `from` to `to` have the same outcome there
 pub outcome-agrees : {P Q : ℕ → Type 0} {from to : ℕ} {o : Option ℕ}
     → ((y : ℕ) → from ≤ y → y ≤ to → P y ↔ Q y) → Outcome P from to o → Outcome Q from to o
 outcome-agrees agree (nothing none-in) =
-    nothing (λ y low high holds. none-in y low high (agree y low high .1 holds))
+    nothing (λ y low high holds. none-in y low high (agree y low (omega arith) .1 holds))
 outcome-agrees agree (found {x} is-least) =
     found
     (record {
       low = is-least .low;
       high = is-least .high;
       holds = agree x (is-least .low) (is-least .high) .0 (is-least .holds);
-      first = λ y low less holds. is-least .first y low less (agree y low (omega arith) .1 holds);
+      first = λ y low less holds. is-least .first y low less (agree y (omega arith) (omega arith) .1 holds);
     })
 
 -- the least number is at most each that passes

@@ -10,6 +10,11 @@ use Rattle.windows.specs.Window.{plain, carry, limit, interference}
 
 -- Without carry-in.
 
+-- a row has worked no more than its polls so far, with the present one
+pub plain-le-polls : (c t x : ℕ) → plain c t x ≤ x / t * c + c
+unfolding plain
+plain-le-polls c t x = omega arith
+
 -- Work that fits: j polls are over, and another, which came s ticks before the window's end, has run b ticks.
 pub plain-runs : (c t j s b x : ℕ) → 0 < t → b ≤ c → b ≤ s → j * t + s ≤ x → j * c + b ≤ plain c t x
 unfolding plain

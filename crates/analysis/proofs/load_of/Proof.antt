@@ -5,8 +5,7 @@ use Rattle.quantities.specs.Row.{cost, gap}
 use Rattle.windows.specs.Window.{plain, carry}
 use Rattle.windows.specs.Choice.{Bounded, bounded, load}
 use Rattle.windows.specs.Jump.{room}
-use Rattle.windows.proofs.Window.{interference-le-work}
-use Rattle.windows.proofs.Far.{plain-le-polls}
+use Rattle.windows.proofs.Window.{plain-le-polls, interference-le-work}
 use borrow.Author.Needs.{needs}
 use Rattle.analysis.proofs.load_of.Statement.{statement}
 use Rattle.analysis.proofs.load_of.Tie as tie

@@ -1,5 +1,6 @@
 -- code_of answers the code of number and place, case by case of the answer.
 use Prim.Native.Nat.{ℕ, _<_}
+use native.Mathlib.Omega.{arith}
 use mathlib.Core.Path.{_≡_, refl, ap, _∙_}
 use Rattle.quantities.specs.declared.Fault.the-variants.{WholeList, OneRow}
 use Rattle.quantities.specs.Paper.{faultPaper}
@@ -64,7 +65,8 @@ enum-known-fault-2 c = search needs
 code-requires-3 : tie.Need-code-requires-3
 code-requires-3 c κs =
     let answer = c .before .before .before .before in
-    one-row-fits _ (answer .before .before .pre) _ _ (answer .answer2 .given .1 ∙ ap Refused (c .before .fault2 .given .1))
+    let fits = one-row-fits _ (answer .before .before .pre) _ _ (answer .answer2 .given .1 ∙ ap Refused (c .before .fault2 .given .1)) in
+    omega (arith, fits)
 
 returns : tie.Need-returns
 returns c = shown-code _ 0 (c .enum-told .given .1) refl

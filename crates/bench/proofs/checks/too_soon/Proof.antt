@@ -1,7 +1,7 @@
 -- too_soon answers by cases of the last release.
 use borrow.Author.Needs.{needs}
 use Rattle.bench.specs.Refusal.{tooSoon}
-use Rattle.bench.proofs.Rows.{too-soon-later}
+use Rattle.bench.proofs.Gaps.{too-soon-later}
 use Rattle.bench.proofs.checks.too_soon.Statement.{statement}
 use Rattle.bench.proofs.checks.too_soon.Tie as tie
 
