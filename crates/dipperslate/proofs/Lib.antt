@@ -1,2 +1,2 @@
--- The room for the input is enough.
+-- The room for the input.
 pub mod Reading

@@ -12,6 +12,10 @@ use Rattle.dipperslate.specs.declared.Input.the-variants.{Bytes, Failed}
 abbrev pub inputRoom : ℕ
 inputRoom = 1024
 
+-- The room has exactly the bytes that document 01 names, whatever the definition above is changed to.
+abbrev pub RoomOf1024 : Type 0
+RoomOf1024 = inputRoom ≡ 1024
+
 -- What stands past the room makes no difference to a sheet's text.
 abbrev pub RoomDecides : Type 0
 RoomDecides = (sheet : List ℕ) → textOf (take inputRoom sheet) ≡ textOf sheet
