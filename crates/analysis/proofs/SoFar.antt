@@ -25,11 +25,11 @@ use Rattle.windows.specs.declared.Answer.the-variants.{Shown, NotShown}
 use Rattle.windows.proofs.Bound.{bound-in-range, bounds-on, bounds-stop, bounds-end}
 use Rattle.windows.proofs.Judgement.{verdict-all, verdict-short}
 use Rattle.analysis.specs.Analysis.{ticks, numbers, inArray, analysisOf}
-use Rattle.analysis.specs.Engine.{above, foundOf}
+use Rattle.analysis.specs.Engine.{above, ShortGap, foundOf}
 use Rattle.analysis.specs.declared.Found.the-variants.{At, Nothing}
 
--- The first i entries are the bounds of the rows above, which are in range, and the others are 0; with the bounds of the
--- rows from there on they are the bounds of the list.
+-- The first i entries are the bounds of the rows above, which are in range and have short gaps, and the others are 0;
+-- with the bounds of the rows from there on they are the bounds of the list.
 pub record SoFar (cores : ℕ) (table : Table) (bounds : List Ticks) (i : ℕ) : Type 0 where
   pub few : table .count ≤ rowCapacity
   pub within : i ≤ table .count
@@ -37,13 +37,14 @@ pub record SoFar (cores : ℕ) (table : Table) (bounds : List Ticks) (i : ℕ) :
   pub blank : drop i bounds ≡ replicate (rowCapacity - i) (ticks 0)
   pub whole : take i (numbers bounds) ++ boundsBelow cores (above table bounds i) (drop i (rowsOf table))
       ≡ boundsBelow cores [] (rowsOf table)
+  pub short : Each ShortGap (above table bounds i)
   pub range : Each InRange (above table bounds i)
 
 -- before the first row
 pub so-far-start : (cores : ℕ) (table : Table) → table .count ≤ rowCapacity
     → SoFar cores table (replicate rowCapacity (ticks 0)) 0
 so-far-start cores table few =
-    record { few = few; within = omega arith; long = refl; blank = refl; whole = refl; range = tt }
+    record { few = few; within = omega arith; long = refl; blank = refl; whole = refl; short = tt; range = tt }
 
 -- a bound written at index i leaves the rows above it as they were
 above-kept : (rows : List Row) (bounds : List ℕ) (k i b : ℕ) → k ≤ i → aboveIndex rows (set bounds i b) k ≡ aboveIndex rows bounds k
@@ -111,6 +112,8 @@ module _ (cores : ℕ) (table : Table) (bounds : List Ticks) (i : ℕ)
               ∙ ap (λ bs. take i (numbers bounds) ++ bs)
               (sym (bounds-on cores x (above table bounds i) row rest is) ∙ ap (boundsBelow cores (above table bounds i)) (sym from))
               ∙ so .whole;
+          short =
+              subst⁻¹ (λ (up : List Bounded). Each ShortGap up) (above-next x) (sound .short-gap, so .short);
           range =
               subst⁻¹ (λ (up : List Bounded). Each InRange up) (above-next x)
               (bound-in-range cores x (above table bounds i) row (sound .some-work) (sound .in-gap) is, so .range);

@@ -6,29 +6,43 @@ use mathlib.Core.List.{List}
 use lib.ListN.{length, getD}
 use Rattle.laws.specs.Each.{Each}
 use Rattle.quantities.specs.Limits.{rowCapacity, coreLimit, largestGap}
-use Rattle.quantities.specs.Row.{gap, SoundRow}
+use Rattle.quantities.specs.Row.{deadline, gap}
 use Rattle.quantities.specs.Table.{rowsOf}
 use Rattle.quantities.specs.declared.Table.{Table}
 use Rattle.quantities.specs.declared.Ticks.{Ticks}
 use Rattle.windows.specs.Choice.{Bounded, InRange, load, loads, most}
 use Rattle.windows.specs.Jump.{room, rooms, stride}
-use Rattle.windows.specs.Judgement.{aboveIndex}
+use Rattle.windows.specs.Judgement.{rowOfIndex, aboveIndex}
 use Rattle.analysis.specs.Analysis.{numbers, ticks}
 use Rattle.analysis.specs.declared.Found.{Found}
 use Rattle.analysis.specs.declared.Found.the-variants.{At, Nothing}
+
+-- the longest window that the engine tries, in ticks: 64 times the largest gap
+abbrev pub largestWindow : ℕ
+largestWindow = 64 * largestGap
 
 -- the rows of a table above index k, with the bounds found so far, the nearest first
 abbrev pub above : Table → List Ticks → ℕ → List Bounded
 above table bounds k = aboveIndex (rowsOf table) (numbers bounds) k
 
--- The cores and the count pass the checks, and the rows above index k have bounds in range.
+-- The gap of a row above is no longer than the largest.
+abbrev pub ShortGap : Bounded → Type 0
+ShortGap b = gap (b .row) ≤ largestGap
+
+-- The cores and the count pass the checks, and the rows above index k have short gaps and bounds in range. Of the row
+-- with index k and of those below it nothing is asked.
 pub record Ready (cores : ℕ) (table : Table) (bounds : List Ticks) (k : ℕ) : Type 0 where
   pub some-cores : 0 < cores
   pub few-cores : cores ≤ coreLimit
   pub few-rows : table .count ≤ rowCapacity
-  pub sound : Each SoundRow (rowsOf table)
   pub within : k ≤ table .count
+  pub short : Each ShortGap (above table bounds k)
   pub range : Each InRange (above table bounds k)
+
+-- The row with index k stands in the table, and its D is no longer than the longest window.
+pub record CanSearch (table : Table) (k : ℕ) : Type 0 where
+  pub stands : k < table .count
+  pub short-deadline : deadline (rowOfIndex (rowsOf table) k) ≤ largestWindow
 
 -- The most that the rows take with m carriers, when one row more comes with this load; `mosts` has it for the rows so far.
 unfoldable pub raisedAt : List ℕ → (without carrying : ℕ) → ℕ → ℕ
@@ -39,9 +53,9 @@ raisedAt mosts without carrying (suc m) = max (without + getD mosts (suc m) 0) (
 pub record CanRaise (mosts : List ℕ) (carriers without carrying : ℕ) : Type 0 where
   pub long : length mosts ≡ coreLimit
   pub few : carriers < coreLimit
-  pub small-without : without ≤ suc largestGap
-  pub small-carrying : carrying ≤ suc largestGap
-  pub small : (m : ℕ) → m ≤ carriers → getD mosts m 0 ≤ rowCapacity * suc largestGap
+  pub small-without : without ≤ suc largestWindow
+  pub small-carrying : carrying ≤ suc largestWindow
+  pub small : (m : ℕ) → m ≤ carriers → getD mosts m 0 ≤ rowCapacity * suc largestWindow
 
 -- The mosts up to `carriers` are the raised ones of the old.
 pub record Raised (old mosts : List ℕ) (carriers without carrying : ℕ) : Type 0 where
@@ -60,8 +74,8 @@ leastWith (suc room) least = min (suc room) least
 -- A row above with its bound, and a window, whose load can be taken with no sum too large.
 pub record CanLoad (b : Bounded) (x : ℕ) : Type 0 where
   pub range : InRange b
-  pub short-gap : gap (b .row) ≤ largestGap
-  pub short-window : x ≤ largestGap
+  pub short-gap : ShortGap b
+  pub short-window : x ≤ largestWindow
 
 -- What is said of a load that the code takes.
 pub record LoadIs (own x : ℕ) (b : Bounded) (w c r : ℕ) : Type 0 where
@@ -72,7 +86,7 @@ pub record LoadIs (own x : ℕ) (b : Bounded) (w c r : ℕ) : Type 0 where
 -- What is said of what the rows above take.
 pub record TakenIs (cores own x : ℕ) (rows : List Bounded) (m s : ℕ) : Type 0 where
   pub mostly : m ≡ most (loads own x rows) (cores - 1)
-  pub striding : s ≡ stride cores largestGap (rooms own x rows)
+  pub striding : s ≡ stride cores largestWindow (rooms own x rows)
 
 -- a window, or none, as the code answers it
 unfoldable pub foundOf : Option ℕ → Found

@@ -1,23 +1,27 @@
 //! The engine: the bounds of a table's rows from the top, and the answer.
 ghost use mathlib.Core.Path.{_≡_};
-ghost use Prim.Native.Nat.{_+_, _-_, _*_, _/_, _≤_, _<_, min, max};
+ghost use Prim.Native.Nat.{_+_, _*_, _/_, _≤_, _<_, min, max};
 ghost use Rattle.quantities.specs.Row.{cost, gap};
 ghost use Rattle.quantities.specs.Limits.{rowCapacity, largestGap};
 ghost use Rattle.quantities.specs.Table.{rowsOf};
-ghost use Rattle.windows.specs.Choice.{bounded, load, most};
-ghost use Rattle.windows.specs.Jump.{room, rooms, stride};
+ghost use Rattle.windows.specs.Window.{plain, carry};
+ghost use Rattle.windows.specs.Choice.{bounded};
 ghost use mathlib.Core.List.{[]};
 ghost use Rattle.quantities.specs.Checks.{SoundList};
-ghost use Rattle.windows.specs.Bound.{boundOf, boundsBelow};
+ghost use Rattle.windows.specs.Bound.{window, boundOf, boundsBelow};
 ghost use Rattle.windows.specs.Answer.{judged, verdict};
 ghost use Rattle.windows.specs.Judgement.{rowOfIndex};
 ghost use Rattle.analysis.specs.Analysis.{analysisOf};
-ghost use Rattle.analysis.specs.Engine.{Ready, CanRaise, Raised, CanLoad, LoadIs, TakenIs, above, countWith, leastWith, foundOf};
+ghost use Rattle.analysis.specs.Engine.{largestWindow, above, Ready, CanSearch, CanRaise, Raised, CanLoad};
+ghost use Rattle.analysis.specs.Engine.{LoadIs, TakenIs, countWith, leastWith, foundOf};
 use quantities::Checked;
 use quantities::Row;
 use quantities::Table;
 use quantities::Ticks;
 use windows::Answer;
+
+// The longest window that the engine tries.
+const LARGEST_WINDOW: u64 = 64_000_000;
 
 // The answer to a table, with the bound of each row in the entry of its index; 0 stands where there is no bound.
 pub struct Analysis {
@@ -93,9 +97,57 @@ fn raise(
     mosts[0] = without.0 + mosts[0];
 }
 
+// The most work of a row in a window without carry-in. It is at most the window, since C is at most T
+// (`plain-le-window`).
+fn plain_work(row: Row, window: Ticks) -> Ticks
+    requires { ⌜ (0 < gap row) × (cost row ≤ gap row) ⌝ }
+    ensures { λ r. ⌜ r ≡ record { 0 = plain (cost row) (gap row) (window .0) } ⌝ }
+{
+    let cost = row.c.0;
+    let gap = row.t.0;
+    let gaps = window.0 / gap;
+    let rest = window.0 % gap;
+    let whole = gaps * cost;
+    if rest < cost {
+        let begun = whole + rest;
+        return Ticks(begun);
+    }
+    let full = whole + cost;
+    Ticks(full)
+}
+
+// The most work of a row with this bound in a window with carry-in. It is at most the window, or one poll
+// (`carry-le-window`).
+fn carry_work(row: Row, bound: Ticks, window: Ticks) -> Ticks
+    requires { ⌜ (0 < cost row) × (cost row ≤ gap row) × (bound .0 ≤ gap row) ⌝ }
+    ensures { λ r. ⌜ r ≡ record { 0 = carry (cost row) (gap row) (bound .0) (window .0) } ⌝ }
+{
+    let cost = row.c.0;
+    let gap = row.t.0;
+    if window.0 < cost {
+        return Ticks(cost);
+    }
+    let before = window.0 - cost;
+    let gaps = before / gap;
+    let rest = before % gap;
+    let whole = gaps * cost + cost;
+    // from the bound to the next release
+    let idle = gap - bound.0;
+    if rest < idle {
+        return Ticks(whole);
+    }
+    let carried = rest - idle;
+    if carried < cost {
+        let begun = whole + carried;
+        return Ticks(begun);
+    }
+    let full = whole + (cost - 1);
+    Ticks(full)
+}
+
 // The work of the polls of a row that came in a window, the present one whole.
-fn polls_in(window: Ticks, gap: Ticks, cost: Ticks) -> Ticks
-    requires { ⌜ (0 < gap .0) × (cost .0 ≤ gap .0) × (gap .0 ≤ largestGap) × (window .0 ≤ largestGap) ⌝ }
+fn polls_work(window: Ticks, gap: Ticks, cost: Ticks) -> Ticks
+    requires { ⌜ (0 < gap .0) × (cost .0 ≤ gap .0) × (gap .0 ≤ largestGap) × (window .0 ≤ largestWindow) ⌝ }
     ensures { λ r. ⌜ r .0 ≡ window .0 / gap .0 * cost .0 + cost .0 ⌝ }
 {
     let gaps = window.0 / gap.0;
@@ -123,9 +175,9 @@ fn load_of(own: Ticks, window: Ticks, row: Row, bound: Ticks) -> Load
     requires { ⌜ CanLoad (bounded row (bound .0)) (window .0) ⌝ }
     ensures { λ r. ⌜ LoadIs (own .0) (window .0) (bounded row (bound .0)) (r .without .0) (r .carrying .0) (r .room .0) ⌝ }
 {
-    let polls = polls_in(window, row.t, row.c);
-    let plain = windows::plain_work(row, window);
-    let carry = windows::carry_work(row, bound, window);
+    let polls = polls_work(window, row.t, row.c);
+    let plain = plain_work(row, window);
+    let carry = carry_work(row, bound, window);
     let without = windows::interference(own, window, plain);
     let carrying = windows::interference(own, window, carry);
     let unfinished = polls.0 - without.0;
@@ -147,14 +199,14 @@ fn taken_above(
     own: Ticks,
     window: Ticks,
 ) -> Taken
-    requires { ⌜ Ready cores table bounds k × (window .0 ≤ largestGap) ⌝ }
+    requires { ⌜ Ready cores table bounds k × (window .0 ≤ largestWindow) ⌝ }
     ensures { λ r. ⌜ TakenIs cores (own .0) (window .0) (above table bounds k) (r .most .0) (r .stride .0) ⌝ }
 {
     let carriers = (cores - 1) as usize;
     let mut mosts = [0u64; Table::CORE_LIMIT as usize];
     let mut rooms = Rooms {
         count: 0,
-        least: Ticks(Table::LARGEST_GAP),
+        least: Ticks(LARGEST_WINDOW),
     };
     let mut i: usize = 0;
     while i < k {
@@ -180,16 +232,20 @@ fn taken_above(
     }
 }
 
-// The bound of the row with index k, when the rows above it have theirs: the least window from C to D that passes.
-fn bound_of(cores: u32, table: Table, bounds: [Ticks; Table::ROW_CAPACITY], k: usize) -> Found
-    requires { ⌜ Ready cores table bounds k × (k < table .count) ⌝ }
-    ensures { λ r. ⌜ r ≡ foundOf (boundOf cores (above table bounds k) (rowOfIndex (rowsOf table) k)) ⌝ }
+// The least window from `own` to `top` that passes below the rows above index k, which have their bounds.
+fn window_of(
+    cores: u32,
+    table: Table,
+    bounds: [Ticks; Table::ROW_CAPACITY],
+    k: usize,
+    own: Ticks,
+    top: Ticks,
+) -> Found
+    requires { ⌜ Ready cores table bounds k × (top .0 ≤ largestWindow) ⌝ }
+    ensures { λ r. ⌜ r ≡ foundOf (window cores (own .0) (top .0) (above table bounds k)) ⌝ }
 {
-    let row = table.rows[k];
-    let own = row.c;
-    let top = row.d.0;
     let mut x = own.0;
-    while x <= top {
+    while x <= top.0 {
         let window = Ticks(x);
         let taken = taken_above(cores, table, bounds, k, own, window);
         let next = own.0 + taken.most.0 / (cores as u64);
@@ -200,6 +256,15 @@ fn bound_of(cores: u32, table: Table, bounds: [Ticks; Table::ROW_CAPACITY], k: u
         x = larger(next, far);
     }
     Found::Nothing
+}
+
+// The bound of the row with index k, when the rows above it have theirs: its least window from C to D that passes.
+fn bound_of(cores: u32, table: Table, bounds: [Ticks; Table::ROW_CAPACITY], k: usize) -> Found
+    requires { ⌜ Ready cores table bounds k × CanSearch table k ⌝ }
+    ensures { λ r. ⌜ r ≡ foundOf (boundOf cores (above table bounds k) (rowOfIndex (rowsOf table) k)) ⌝ }
+{
+    let row = table.rows[k];
+    window_of(cores, table, bounds, k, row.c, row.d)
 }
 
 // The bounds of a sound table's rows from the top, up to the first row that has none, which is then named.

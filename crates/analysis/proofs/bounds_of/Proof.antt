@@ -1,9 +1,10 @@
 -- bounds_of walks down the table; the bounds found so far are those of the rows above.
-use Prim.Native.Nat.{ℕ, _-_}
+use Prim.Native.Nat.{ℕ, _-_, _<_}
 use native.Mathlib.Omega.{arith}
 use native.Mathlib.Numerals.{add-one}
 use mathlib.Core.Path.{sym, ap, _∙_}
 use mathlib.Core.List.{List}
+use lib.ListN.{length}
 use Rattle.laws.proofs.Lists.{each-at}
 use Rattle.quantities.specs.Row.{SoundRow, noRow}
 use Rattle.quantities.specs.declared.Ticks.{Ticks}
@@ -33,16 +34,20 @@ loop-holds c =
 bound-of-requires : tie.Need-bound-of-requires Inv-loop μ-loop
 bound-of-requires c κs =
     let s = c .before .before .before in
-    let so = c .before .before .loop .inv in (
+    let so = c .before .before .loop .inv in
+    let rows = rowsOf (s .args .table) in
+    let i = c .before .before .loop .i in
+    let inside : i < length rows = omega (arith, length-rows (s .args .table)) in
+    let sound = each-at SoundRow rows i noRow inside (s .pre .sound-rows) in (
       record {
         some-cores = s .pre .some-cores;
         few-cores = s .pre .few-cores;
         few-rows = so .few;
-        sound = s .pre .sound-rows;
         within = so .within;
+        short = so .short;
         range = so .range;
       },
-      omega arith,
+      record { stands = omega arith; short-deadline = omega arith },
     )
 
 enum-known-found : tie.Need-enum-known-found Inv-loop μ-loop

@@ -10,8 +10,8 @@ use borrow.Author.Needs.{needs}
 use Rattle.analysis.proofs.load_of.Statement.{statement}
 use Rattle.analysis.proofs.load_of.Tie as tie
 
-polls-in-requires : tie.Need-polls-in-requires
-polls-in-requires c κs = search needs
+polls-work-requires : tie.Need-polls-work-requires
+polls-work-requires c κs = search needs
 
 plain-work-requires : tie.Need-plain-work-requires
 plain-work-requires c κs = search needs
@@ -37,7 +37,9 @@ carrying-le-carry own x b = interference-le-work own x (carry (cost (b .row)) (g
 sub-unfinished : tie.Need-sub-unfinished
 sub-unfinished c =
     let a = c .before .before .before .before .before .before .before .args in
-    rw (c .before .before .before .interference .ensures, c .before .before .before .before .before .plain-work .ensures, c .before .before .before .before .before .before .polls-in .ensures)
+    let polls = c .before .before .before .before .before .before .polls-work .ensures in
+    let plain = c .before .before .before .before .before .plain-work .ensures in
+    rw (c .before .before .before .interference .ensures, plain, polls)
     (without-le-polls (a .own .0) (a .window .0) (bounded (a .row) (a .bound .0)))
 
 sub-cut : tie.Need-sub-cut
@@ -52,6 +54,7 @@ smaller-requires c κs = search needs
 returns : tie.Need-returns
 unfolding room
 returns c =
+    let polls = c .before .before .before .before .before .before .before .before .before .polls-work .ensures in
     let plain = c .before .before .before .before .before .before .before .before .plain-work .ensures in
     let carry = c .before .before .before .before .before .before .before .carry-work .ensures in
     let without = c .before .before .before .before .before .before .interference .ensures in
@@ -59,14 +62,14 @@ returns c =
     record {
       without = simp (without, plain);
       carrying = simp (carrying, carry);
-      roominess = simp (c .smaller .ensures, without, plain, carrying, carry, c .before .before .before .before .before .before .before .before .before .polls-in .ensures);
+      roominess = simp (c .smaller .ensures, without, plain, carrying, carry, polls);
     }
 
 pub load-of-spec : {M : Type 1} → statement M
 load-of-spec =
     tie.close
     (tie.spec
-    polls-in-requires
+    polls-work-requires
     plain-work-requires
     carry-work-requires
     interference-requires

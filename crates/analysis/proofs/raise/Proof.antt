@@ -7,6 +7,7 @@ use mathlib.Core.List.{List}
 use borrow.Author.Needs.{needs}
 use lib.ListN.{length, getD, set, length-set}
 use lib.Seq.{getD-set-same, getD-set-other}
+use Rattle.quantities.specs.Limits.{coreLimit}
 use Rattle.analysis.specs.Engine.{raisedAt}
 use Rattle.analysis.proofs.raise.Statement.{statement}
 use Rattle.analysis.proofs.raise.Tie as tie
@@ -14,7 +15,7 @@ use Rattle.analysis.proofs.raise.Tie as tie
 -- the entries above m are the raised ones, the others are as they were
 record In (carriers without carrying : ℕ) (old mosts : List ℕ) (m : ℕ) : Type 0 where
   le : m ≤ carriers
-  long : length mosts ≡ 16
+  long : length mosts ≡ coreLimit
   done : (j : ℕ) → m < j → j ≤ carriers → getD mosts j 0 ≡ raisedAt old without carrying j
   kept : (j : ℕ) → j ≤ m → getD mosts j 0 ≡ getD old j 0
 
@@ -26,7 +27,7 @@ module _ (carriers without carrying : ℕ) (old mosts : List ℕ) where
   raised-entry m n e i = rw (i .kept m (omega arith), i .kept n (omega arith), e) refl
 
   -- one turn: the entry m is raised
-  turn : (m n : ℕ) → m ≡ suc n → carriers < 16 → In carriers without carrying old mosts m
+  turn : (m n : ℕ) → m ≡ suc n → carriers < coreLimit → In carriers without carrying old mosts m
       → In carriers without carrying old (set mosts m (max (without + getD mosts m 0) (carrying + getD mosts n 0))) n
   turn m n e few i =
       let inside : m < length mosts = omega arith in
@@ -43,7 +44,7 @@ module _ (carriers without carrying : ℕ) (old mosts : List ℕ) where
       }
 
   -- after the last turn the entry 0 is raised
-  last : carriers < 16 → In carriers without carrying old mosts 0
+  last : carriers < coreLimit → In carriers without carrying old mosts 0
       → (m : ℕ) → m ≤ carriers → getD (set mosts 0 (without + getD mosts 0 0)) m 0 ≡ raisedAt old without carrying m
   unfolding raisedAt
   last few i zero h = let inside : 0 < length mosts = omega arith in rw (getD-set-same mosts 0 (without + getD mosts 0 0) 0 inside, i .kept 0 (omega arith)) refl

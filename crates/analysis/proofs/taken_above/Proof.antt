@@ -8,20 +8,18 @@ use mathlib.Core.List.{List, _∷_}
 use borrow.Author.Needs.{needs}
 use lib.ListN.{length, getD}
 use Rattle.laws.proofs.Lists.{getD-repeated}
-use Rattle.quantities.specs.Limits.{largestGap}
-use Rattle.quantities.specs.Row.{noRow, SoundRow}
+use Rattle.quantities.specs.Limits.{coreLimit}
 use Rattle.quantities.specs.Table.{rowsOf}
 use Rattle.quantities.specs.declared.Table.{Table}
 use Rattle.quantities.specs.declared.Ticks.{Ticks}
-use Rattle.quantities.proofs.Rows.{each-row}
 use Rattle.windows.specs.Choice.{Bounded, bounded, InRange, Load, load, loads, most}
 use Rattle.windows.specs.Jump.{room, rooms, roomy, leastRoom}
 use Rattle.windows.specs.Judgement.{rowOfIndex}
 use Rattle.windows.proofs.Room.{stride-in, stride-out}
 use Rattle.analysis.specs.Analysis.{numbers}
-use Rattle.analysis.specs.Engine.{above, raisedAt, countWith, leastWith, LoadIs, TakenIs}
+use Rattle.analysis.specs.Engine.{largestWindow, ShortGap, above, raisedAt, countWith, leastWith, LoadIs, TakenIs}
 use Rattle.analysis.proofs.Above.{entry, entry-above, each-entry}
-use Rattle.analysis.proofs.Small.{most-small, load-small}
+use Rattle.analysis.proofs.Small.{few-above, most-small, load-small}
 use Rattle.analysis.proofs.Tally.{count-le, count-row, least-row}
 use Rattle.analysis.proofs.taken_above.Statement.{statement}
 use Rattle.analysis.proofs.taken_above.Tie as tie
@@ -37,10 +35,10 @@ raised-is-most ls l mosts carriers is (suc m) h = rw (is (suc m) h, is m (omega 
 record In (cores : ℕ) (table : Table) (bounds : List Ticks) (k own x : ℕ) (mosts : List ℕ) (count least i : ℕ) : Type 0 where
   le : i ≤ k
   few : count ≤ i
-  long : length mosts ≡ 16
+  long : length mosts ≡ coreLimit
   mostly : (m : ℕ) → m ≤ cores - 1 → getD mosts m 0 ≡ most (loads own x (above table bounds i)) m
   counted : count ≡ roomy 1 (rooms own x (above table bounds i))
-  smallest : least ≡ leastRoom largestGap (rooms own x (above table bounds i))
+  smallest : least ≡ leastRoom largestWindow (rooms own x (above table bounds i))
 
 -- One turn, at the row with index i, whose load the code took.
 module _ (cores : ℕ) (table : Table) (bounds : List Ticks) (k own x : ℕ) (mosts : List ℕ) (count least i : ℕ)
@@ -50,7 +48,7 @@ module _ (cores : ℕ) (table : Table) (bounds : List Ticks) (k own x : ℕ) (mo
   next : LoadIs own x (bounded (rowOfIndex (rowsOf table) i) (getD (numbers bounds) i 0)) w c r
   next = subst (λ (b : Bounded). LoadIs own x b w c r) (entry-above table bounds i (omega arith)) taken
 
-  turn : (raised : List ℕ) (count′ least′ : ℕ) → length raised ≡ 16
+  turn : (raised : List ℕ) (count′ least′ : ℕ) → length raised ≡ coreLimit
       → ((m : ℕ) → m ≤ cores - 1 → getD raised m 0 ≡ raisedAt mosts w c m)
       → count′ ≡ countWith r count → least′ ≡ leastWith r least
       → In cores table bounds k own x raised count′ least′ (i + 1)
@@ -65,7 +63,9 @@ module _ (cores : ℕ) (table : Table) (bounds : List Ticks) (k own x : ℕ) (mo
         mostly = λ m low.
             up m low ∙ rw (next .without, next .carrying) (raised-is-most (loads own x passed) (load own x b) mosts (cores - 1) (inv .mostly) m low);
         counted = p ∙ ap₂ countWith (next .roominess) (inv .counted) ∙ sym (count-row (room own x b) (rooms own x passed));
-        smallest = q ∙ ap₂ leastWith (next .roominess) (inv .smallest) ∙ sym (least-row largestGap (room own x b) (rooms own x passed));
+        smallest =
+            q ∙ ap₂ leastWith (next .roominess) (inv .smallest)
+            ∙ sym (least-row largestWindow (room own x b) (rooms own x passed));
       })
 
 -- After the last row.
@@ -76,7 +76,7 @@ module _ (cores : ℕ) (table : Table) (bounds : List Ticks) (k own x : ℕ) (mo
       let counted = rw over at (inv .counted) in
       record {
         mostly = rw over at (inv .mostly (cores - 1) (omega arith));
-        striding = sym (stride-out cores largestGap (rooms own x (above table bounds k)) (omega arith));
+        striding = sym (stride-out cores largestWindow (rooms own x (above table bounds k)) (omega arith));
       }
 
   enough-roomy : cores - 1 < count → TakenIs cores own x (above table bounds k) (getD mosts (cores - 1) 0) least
@@ -85,7 +85,7 @@ module _ (cores : ℕ) (table : Table) (bounds : List Ticks) (k own x : ℕ) (mo
       let smallest = rw over at (inv .smallest) in
       record {
         mostly = rw over at (inv .mostly (cores - 1) (omega arith));
-        striding = smallest ∙ sym (stride-in cores largestGap (rooms own x (above table bounds k)) (omega arith));
+        striding = smallest ∙ sym (stride-in cores largestWindow (rooms own x (above table bounds k)) (omega arith));
       }
 
 abbrev Inv-loop : tie.InvT-loop
@@ -107,7 +107,7 @@ loop-holds c =
       le = omega arith;
       few = omega arith;
       long = refl;
-      mostly = λ m h. getD-repeated 16 m 0;
+      mostly = λ m h. getD-repeated coreLimit m 0;
       counted = refl;
       smallest = refl;
     }
@@ -128,10 +128,12 @@ load-of-requires : tie.Need-load-of-requires Inv-loop μ-loop
 load-of-requires c κs =
     let s = c .before .before .before .before in
     let i = c .before .before .before .loop .i in
-    let row : SoundRow (getD (s .args .t2 .rows) i noRow) = each-row SoundRow (s .args .t2) i (omega arith) (s .pre .0 .sound) in
+    let ready = s .pre .0 in
     record {
-      range = each-entry InRange (s .args .t2) (s .args .t3) (s .args .k) i (s .pre .0 .within) (omega arith) (s .pre .0 .range);
-      short-gap = row .short-gap;
+      range =
+          each-entry InRange (s .args .t2) (s .args .t3) (s .args .k) i (ready .within) (omega arith) (ready .range);
+      short-gap =
+          each-entry ShortGap (s .args .t2) (s .args .t3) (s .args .k) i (ready .within) (omega arith) (ready .short);
       short-window = s .pre .1;
     }
 
@@ -141,6 +143,7 @@ raise-requires c κs =
     let at = c .before .before .before .before .before .loop in
     let own = s .args .own .0 in
     let x = s .args .window .0 in
+    let passed = above (s .args .t2) (s .args .t3) (at .i) in
     let small = load-small own x (entry (s .args .t2) (s .args .t3) (at .i)) (s .pre .1) in
     record {
       long = at .inv .long;
@@ -149,7 +152,7 @@ raise-requires c κs =
       small-carrying = rw (c .before .load-of .ensures .carrying) (small .1);
       small = λ m h.
           rw (at .inv .mostly m h)
-          (most-small (s .args .t2) (s .args .t3) (at .i) own x m (omega arith) (s .pre .1));
+          (most-small own x m passed (few-above (s .args .t2) (s .args .t3) (at .i) (omega arith)) (s .pre .1));
     }
 
 with-room-requires : tie.Need-with-room-requires Inv-loop μ-loop

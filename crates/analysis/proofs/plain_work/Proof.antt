@@ -1,15 +1,16 @@
 -- plain_work answers the formula without carry-in; no product or sum in it is larger than the window.
 use Prim.Native.Nat.{_+_, _*_, _/_, _%_, _≤_}
-use native.Mathlib.Nat.{min-eq-left, min-eq-right, le-of-lt}
+use mathlib.Core.Path.{ap}
 use native.Mathlib.Omega.{arith}
 use borrow.Author.Needs.{needs}
 use Rattle.laws.proofs.Numbers.{div-mul-add-mod-le}
 use Rattle.quantities.specs.Row.{cost, gap}
 use Rattle.quantities.specs.declared.Row.{Row}
 use Rattle.quantities.specs.declared.Ticks.{Ticks}
 use Rattle.windows.specs.Window.{plain}
-use Rattle.windows.proofs.plain_work.Statement.{statement}
-use Rattle.windows.proofs.plain_work.Tie as tie
+use Rattle.analysis.specs.Analysis.{ticks}
+use Rattle.analysis.proofs.plain_work.Statement.{statement}
+use Rattle.analysis.proofs.plain_work.Tie as tie
 
 -- the window holds the whole gaps' polls and the rest
 within : (row : Row) (window : Ticks) → cost row ≤ gap row
@@ -34,7 +35,7 @@ add-begun c =
 
 returns : tie.Need-returns
 unfolding plain
-returns c = simp (min-eq-left (le-of-lt (c .if1 .taken)))
+returns c = ap ticks (omega arith)
 
 add-full : tie.Need-add-full
 add-full c =
@@ -43,7 +44,7 @@ add-full c =
 
 returns-2 : tie.Need-returns-2
 unfolding plain
-returns-2 c = simp (min-eq-right (c .if1 .left))
+returns-2 c = ap ticks (omega arith)
 
 pub plain-work-spec : {M : Type 1} → statement M
 plain-work-spec =

@@ -1,5 +1,5 @@
 -- carry_work answers the formula with carry-in; no product or sum in it is larger than the window.
-use Prim.Native.Nat.{ℕ, _+_, _-_, _*_, _/_, _%_, _≤_}
+use Prim.Native.Nat.{_+_, _-_, _*_, _/_, _%_, _≤_}
 use mathlib.Core.Path.{_≡_, ap}
 use native.Mathlib.Nat.{zero-div, zero-mod}
 use native.Mathlib.Omega.{arith}
@@ -8,12 +8,10 @@ use Rattle.laws.proofs.Numbers.{div-mul-add-mod-le}
 use Rattle.quantities.specs.Row.{cost, gap}
 use Rattle.quantities.specs.declared.Row.{Row}
 use Rattle.quantities.specs.declared.Ticks.{Ticks}
 use Rattle.windows.specs.Window.{carry}
-use Rattle.windows.proofs.carry_work.Statement.{statement}
-use Rattle.windows.proofs.carry_work.Tie as tie
-
-abbrev ticks : ℕ → Ticks
-ticks n = record { 0 = n }
+use Rattle.analysis.specs.Analysis.{ticks}
+use Rattle.analysis.proofs.carry_work.Statement.{statement}
+use Rattle.analysis.proofs.carry_work.Tie as tie
 
 -- the window before its last poll holds the whole gaps' polls and the rest
 within : (row : Row) (window : Ticks) → cost row ≤ gap row

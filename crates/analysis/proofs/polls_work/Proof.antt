@@ -1,10 +1,10 @@
--- polls_in answers the work of the polls released in a window; with the cost at most the gap it is at most the window and a poll.
+-- polls_work answers the work of the polls released in a window: at most the window and a poll, since C is at most T.
 use Prim.Native.Nat.{_/_}
 use native.Mathlib.Omega.{arith}
 use native.Mathlib.Nat.{mul-le-mul-left, div-mul-le-self}
 use borrow.Author.Needs.{needs}
-use Rattle.analysis.proofs.polls_in.Statement.{statement}
-use Rattle.analysis.proofs.polls_in.Tie as tie
+use Rattle.analysis.proofs.polls_work.Statement.{statement}
+use Rattle.analysis.proofs.polls_work.Tie as tie
 
 div-gaps : tie.Need-div-gaps
 div-gaps c = search needs
@@ -25,5 +25,5 @@ add-t6 c =
 returns : tie.Need-returns
 returns c = search needs
 
-pub polls-in-spec : {M : Type 1} → statement M
-polls-in-spec = tie.close (tie.spec div-gaps mul-whole add-t6 returns)
+pub polls-work-spec : {M : Type 1} → statement M
+polls-work-spec = tie.close (tie.spec div-gaps mul-whole add-t6 returns)
