@@ -8,13 +8,13 @@ use lib.ListN.{length, getD, List·getD-map}
 use Rattle.laws.specs.Each.{Each}
 use Rattle.quantities.specs.Row.{noRow}
 use Rattle.quantities.specs.Table.{rowsOf}
+use Rattle.quantities.specs.Lengths.{ticks, numbers}
 use Rattle.quantities.specs.declared.Row.{Row}
 use Rattle.quantities.specs.declared.Table.{Table}
 use Rattle.quantities.specs.declared.Ticks.{Ticks}
 use Rattle.quantities.proofs.Rows.{row-at}
 use Rattle.windows.specs.Choice.{Bounded, bounded}
 use Rattle.windows.specs.Judgement.{aboveIndex, rowOfIndex}
-use Rattle.analysis.specs.Analysis.{ticks, numbers}
 use Rattle.analysis.specs.Engine.{above}
 
 -- there are as many rows above an index as it says

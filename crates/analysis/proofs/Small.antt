@@ -7,13 +7,13 @@ use lib.ListN.{length}
 use Rattle.quantities.specs.Limits.{rowCapacity}
 use Rattle.quantities.specs.Row.{cost, gap}
 use Rattle.quantities.specs.Table.{rowsOf}
+use Rattle.quantities.specs.Lengths.{numbers}
 use Rattle.quantities.specs.declared.Table.{Table}
 use Rattle.quantities.specs.declared.Ticks.{Ticks}
 use Rattle.windows.specs.Window.{plain, carry, limit}
 use Rattle.windows.specs.Choice.{Bounded, load, loads, most}
 use Rattle.windows.proofs.Window.{interference-le-limit}
 use Rattle.windows.proofs.Choice.{most-le-limit}
-use Rattle.analysis.specs.Analysis.{numbers}
 use Rattle.analysis.specs.Engine.{largestWindow, above}
 use Rattle.analysis.proofs.Above.{length-above}
 

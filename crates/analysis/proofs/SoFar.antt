@@ -13,6 +13,7 @@ use Rattle.laws.proofs.Lists.{map-take, map-set}
 use Rattle.quantities.specs.Limits.{rowCapacity}
 use Rattle.quantities.specs.Row.{SoundRow, noRow}
 use Rattle.quantities.specs.Table.{rowsOf}
+use Rattle.quantities.specs.Lengths.{ticks, numbers, inArray}
 use Rattle.quantities.specs.declared.Row.{Row}
 use Rattle.quantities.specs.declared.Table.{Table}
 use Rattle.quantities.specs.declared.Ticks.{Ticks}
@@ -24,7 +25,7 @@ use Rattle.windows.specs.Judgement.{rowOfIndex, aboveIndex}
 use Rattle.windows.specs.declared.Answer.the-variants.{Shown, NotShown}
 use Rattle.windows.proofs.Bound.{bound-in-range, bounds-on, bounds-stop, bounds-end}
 use Rattle.windows.proofs.Judgement.{verdict-all, verdict-short}
-use Rattle.analysis.specs.Analysis.{ticks, numbers, inArray, analysisOf}
+use Rattle.analysis.specs.Analysis.{analysisOf}
 use Rattle.analysis.specs.Engine.{above, ShortGap, foundOf}
 use Rattle.analysis.specs.declared.Found.the-variants.{At, Nothing}
 

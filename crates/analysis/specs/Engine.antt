@@ -8,12 +8,12 @@ use Rattle.laws.specs.Each.{Each}
 use Rattle.quantities.specs.Limits.{rowCapacity, coreLimit, largestGap}
 use Rattle.quantities.specs.Row.{deadline, gap}
 use Rattle.quantities.specs.Table.{rowsOf}
+use Rattle.quantities.specs.Lengths.{numbers, ticks}
 use Rattle.quantities.specs.declared.Table.{Table}
 use Rattle.quantities.specs.declared.Ticks.{Ticks}
 use Rattle.windows.specs.Choice.{Bounded, InRange, load, loads, most}
 use Rattle.windows.specs.Jump.{room, rooms, stride}
 use Rattle.windows.specs.Judgement.{rowOfIndex, aboveIndex}
-use Rattle.analysis.specs.Analysis.{numbers, ticks}
 use Rattle.analysis.specs.declared.Found.{Found}
 use Rattle.analysis.specs.declared.Found.the-variants.{At, Nothing}
 

@@ -4,7 +4,7 @@ ghost use Prim.Native.Nat.{_≤_, _<_};
 ghost use lib.ListN.{length};
 ghost use Rattle.windows.specs.Answer.{judgedInto, paperOf};
 ghost use Rattle.quantities.specs.Limits.{rowCapacity};
-ghost use Rattle.analysis.specs.Analysis.{numbers};
+ghost use Rattle.quantities.specs.Lengths.{numbers};
 ghost use Rattle.lentrows.specs.Loaded.{tableOf};
 ghost use Rattle.lentrows.specs.Lent.{firstOf};
 ghost use Rattle.exports.specs.Exported.{rowsFrom, placeLimit, coded, codeOf, FitsCode, Exported};

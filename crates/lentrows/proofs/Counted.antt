@@ -6,12 +6,12 @@ use mathlib.Core.Logic.{⊎-elim}
 use mathlib.Core.List.{List, [], _∷_, _++_, map}
 use lib.ListN.{length, take}
 use Rattle.quantities.specs.Checks.{SoundList}
+use Rattle.quantities.specs.Lengths.{ticks, numbers, inArray}
 use Rattle.quantities.specs.declared.Row.{Row}
 use Rattle.quantities.specs.declared.Ticks.{Ticks}
 use Rattle.windows.specs.Answer.{judged}
 use Rattle.windows.specs.Judgement.{AllShown, FirstNotShown}
 use Rattle.windows.proofs.Judgement.{judged-means}
-use Rattle.analysis.specs.Analysis.{ticks, numbers, inArray}
 use Rattle.lentrows.specs.Lent.{shownBy}
 
 -- the answer to a sound list says how many bounds it has

@@ -12,6 +12,7 @@ use lib.Seq.{take-at, drop-at}
 use borrow.Author.Tests.{eqb-true}
 use Rattle.quantities.specs.Limits.{rowCapacity}
 use Rattle.quantities.specs.Checks.{listFault, lentFault}
+use Rattle.quantities.specs.Lengths.{ticks, numbers}
 use Rattle.quantities.specs.declared.Row.{Row}
 use Rattle.quantities.specs.declared.Fault.{Fault}
 use Rattle.quantities.specs.declared.Ticks.{Ticks}
@@ -19,7 +20,6 @@ use Rattle.quantities.proofs.Sound.{sound-list-means}
 use Rattle.windows.specs.declared.Answer.the-variants.{Shown, NotShown, Refused}
 use Rattle.windows.specs.Answer.{Judged, verdict, judgedAfter, judgedInto, written}
 use Rattle.windows.specs.Bound.{boundsBelow}
-use Rattle.analysis.specs.Analysis.{ticks, numbers}
 use Rattle.windows.proofs.Into.{into-faulty, into-short, into-room, few-bounds}
 use Rattle.lentrows.specs.Lent.{LentAnalysis, Filled, judgedOver}
 use Rattle.lentrows.specs.Lent.{RefusedWritesNothing, NotShownLeaves, ShownFills, LengthKept, OneOutcome}

@@ -7,10 +7,10 @@ use mathlib.Core.List.{List, [], _∷_, _++_}
 use lib.ListN.{length, set, getD, take, drop, length-append, length-drop}
 use lib.Seq.{paste-suc, length-take-le}
 use Rattle.quantities.specs.Limits.{rowCapacity}
+use Rattle.quantities.specs.Lengths.{numbers}
 use Rattle.quantities.specs.declared.Row.{Row}
 use Rattle.quantities.specs.declared.Ticks.{Ticks}
 use Rattle.windows.specs.Answer.{Judged, judgedInto, written}
-use Rattle.analysis.specs.Analysis.{numbers}
 use Rattle.lentrows.specs.Lent.{LentAnalysis, firstOf, toldOf}
 use Rattle.lentrows.specs.declared.Told.{Told}
 use Rattle.lentrows.proofs.Counted.{found-are}

@@ -9,7 +9,7 @@ use Rattle.quantities.specs.declared.Ticks.{Ticks}
 use Rattle.windows.specs.Answer.{Judged, judgedInto, written}
 use Rattle.windows.specs.declared.Answer.{Answer}
 use Rattle.windows.specs.declared.Answer.the-variants.{Shown, NotShown, Refused}
-use Rattle.analysis.specs.Analysis.{numbers, inArray}
+use Rattle.quantities.specs.Lengths.{numbers, inArray}
 use Rattle.lentrows.specs.declared.Told.{Told}
 
 -- The answer is the one judged, and the list, read as numbers of ticks, is left with the bounds that come with it in its

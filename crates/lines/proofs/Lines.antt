@@ -4,9 +4,9 @@ use mathlib.Core.Path.{_≡_, refl, ap, _∙_}
 use mathlib.Core.List.{List, _∷_, _++_, map, map-append, map-map, map-id}
 use lib.ListN.{length, getD, replicate}
 use Rattle.quantities.specs.Limits.{rowCapacity}
+use Rattle.quantities.specs.Lengths.{ticks, numbers, inArray}
 use Rattle.quantities.specs.declared.Ticks.{Ticks}
 use Rattle.laws.proofs.Lists.{getD-padded}
-use Rattle.analysis.specs.Analysis.{ticks, numbers, inArray}
 use Rattle.sheet.specs.declared.Entry.{Entry}
 use Rattle.lines.specs.Lines.{rowLines}
 

@@ -11,7 +11,7 @@ ghost use lib.ListN.{length};
 ghost use Rattle.lines.specs.Buffer.{Puts};
 ghost use Rattle.lines.specs.Lines.{firstLine, rowLine, rowLines, shownLine, notShownLine, refusedLine, lineRoom};
 ghost use Rattle.quantities.specs.Limits.{rowCapacity};
-ghost use Rattle.analysis.specs.Analysis.{numbers};
+ghost use Rattle.quantities.specs.Lengths.{numbers};
 
 mod put;
 

@@ -18,7 +18,7 @@ use Rattle.quantities.specs.declared.Row.{Row}
 use Rattle.quantities.specs.declared.Ticks.{Ticks}
 use Rattle.windows.specs.Answer.{judgedInto}
 use Rattle.windows.specs.declared.Answer.{Answer}
-use Rattle.analysis.specs.Analysis.{numbers}
+use Rattle.quantities.specs.Lengths.{numbers}
 use Rattle.bench.specs.declared.Bench.{Bench}
 use Rattle.bench.specs.declared.Outcome.{Outcome}
 use Rattle.bench.specs.declared.Refusal.{Refusal}

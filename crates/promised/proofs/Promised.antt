@@ -12,6 +12,7 @@ use Rattle.quantities.specs.declared.Table.{Table}
 use Rattle.quantities.specs.declared.Checked.{Checked}
 use Rattle.quantities.specs.Table.{rowsOf, emptyTable, withRow}
 use Rattle.quantities.specs.Checks.{listChecks, roomChecks, listFault, lentFault, checkedOf}
+use Rattle.quantities.specs.Lengths.{numbers}
 use Rattle.quantities.proofs.Sound.{sound-list-means}
 use Rattle.windows.specs.Answer.{Judged, judged, judgedInto, paperOf}
 use Rattle.windows.proofs.Into.{into-refused, into-room}
@@ -21,7 +22,7 @@ use Rattle.records.specs.Records.{recordLength, recordOn, kindOf, sizeOf, isEnd
 use Rattle.sheet.specs.Reader.{readOf}
 use Rattle.sheet.specs.declared.Outcome.{Outcome}
 use Rattle.text.specs.Printed.{Printed}
-use Rattle.analysis.specs.Analysis.{numbers, analysisOf}
+use Rattle.analysis.specs.Analysis.{analysisOf}
 use Rattle.analysis.specs.declared.Analysis.{Analysis}
 use Rattle.lentrows.specs.declared.Told.{Told}
 use Rattle.lentrows.specs.Lent.{toldOf}

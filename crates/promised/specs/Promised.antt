@@ -17,6 +17,7 @@ use Rattle.quantities.specs.declared.Checked.the-variants.{Sound, Faulty}
 use Rattle.quantities.specs.Table.{rowsOf}
 use Rattle.quantities.specs.Paper.{paper, paperOf as checkedPaper}
 use Rattle.quantities.specs.Checks.{Check, FirstFailing}
+use Rattle.quantities.specs.Lengths.{numbers}
 use Rattle.windows.specs.declared.Answer.{Answer}
 use Rattle.windows.specs.declared.Answer.the-variants.{Shown, NotShown, Refused}
 use Rattle.records.specs.declared.Record.{Record}
@@ -25,7 +26,6 @@ use Rattle.sheet.specs.declared.Entry.{Entry}
 use Rattle.sheet.specs.declared.Sheet.{Sheet}
 use Rattle.sheet.specs.declared.Verdict.the-variants.{Sound as SoundSheet}
 use Rattle.sheet.specs.declared.Outcome.{Outcome}
-use Rattle.analysis.specs.Analysis.{numbers}
 use Rattle.analysis.specs.declared.Analysis.{Analysis}
 use Rattle.lentrows.specs.declared.Told.{Told}
 use Rattle.bench.specs.declared.Bench.{Bench}

@@ -14,13 +14,14 @@ use Rattle.quantities.specs.declared.Fault.the-variants.{WholeList}
 use Rattle.quantities.specs.declared.Ticks.{Ticks}
 use Rattle.quantities.specs.Limits.{rowCapacity}
 use Rattle.quantities.specs.Checks.{FirstFailing, listChecks, roomChecks, listFault, lentFault}
+use Rattle.quantities.specs.Lengths.{numbers, inArray}
 use Rattle.quantities.proofs.Checks.{lent-fault-list, lent-fault-short}
 use Rattle.quantities.proofs.Paper.{fault-first}
 use Rattle.quantities.proofs.Sound.{sound-list-means}
 use Rattle.windows.specs.declared.Answer.{Answer}
 use Rattle.windows.specs.Answer.{Judged, judged, judgedInto, written, paperOf}
 use Rattle.windows.proofs.Into.{into-refused, into-room, refused-fault, few-bounds}
-use Rattle.analysis.specs.Analysis.{numbers, inArray, analysisOf}
+use Rattle.analysis.specs.Analysis.{analysisOf}
 use Rattle.windows.proofs.Judgement.{judged-faulty}
 use Rattle.lentrows.specs.Lent.{toldOf}
 use Rattle.lentrows.proofs.Lent.{bounds-fit}

@@ -9,10 +9,11 @@ use Rattle.quantities.specs.declared.Fault.{Fault}
 use Rattle.quantities.specs.declared.Ticks.{Ticks}
 use Rattle.quantities.specs.Paper.{paper, faultPaper, FirstOf}
 use Rattle.quantities.specs.Checks.{Check, FirstFailing}
+use Rattle.quantities.specs.Lengths.{numbers}
 use Rattle.windows.specs.declared.Answer.{Answer}
 use Rattle.windows.specs.declared.Answer.the-variants.{Refused}
 use Rattle.windows.specs.Answer.{Judged, judged, judgedInto, paperOf}
-use Rattle.analysis.specs.Analysis.{numbers, analysisOf}
+use Rattle.analysis.specs.Analysis.{analysisOf}
 use Rattle.lentrows.specs.declared.Told.{Told}
 use Rattle.lentrows.specs.Lent.{LentAnalysis, toldOf}
 use Rattle.exports.specs.Exported.{rowFrom, rowsFrom, Exported}

@@ -1,6 +1,7 @@
--- Limits, rows, tables, the checks of a list, and faults on paper.
+-- Limits, rows, lengths, tables, the checks of a list, and faults on paper.
 pub mod Limits
 pub mod Row
+pub mod Lengths
 pub mod Table
 pub mod Checks
 pub mod Paper

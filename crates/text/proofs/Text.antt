@@ -15,12 +15,13 @@ use Rattle.quantities.specs.declared.Fault.{Fault}
 use Rattle.quantities.proofs.Sound.{sound-list-means}
 use Rattle.quantities.proofs.Rows.{length-rows}
 use Rattle.quantities.specs.Paper.{faultPaper}
+use Rattle.quantities.specs.Lengths.{numbers}
 use Rattle.windows.specs.Answer.{Judged, judged}
 use Rattle.windows.specs.Judgement.{AllShown, FirstNotShown}
 use Rattle.windows.specs.declared.Answer.{Answer}
 use Rattle.windows.specs.declared.Answer.the-variants.{Shown, NotShown, Refused}
 use Rattle.windows.proofs.Judgement.{judged-faulty, judged-means}
-use Rattle.analysis.specs.Analysis.{numbers, analysisOf}
+use Rattle.analysis.specs.Analysis.{analysisOf}
 use Rattle.analysis.specs.declared.Analysis.{Analysis}
 use Rattle.sheet.specs.Entries.{tableOf}
 use Rattle.sheet.specs.Reader.{readOf}

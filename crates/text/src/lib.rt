@@ -15,7 +15,7 @@ ghost use Prim.Native.Nat.{_+_, _*_, _≤_};
 ghost use lib.ListN.{length};
 ghost use Rattle.quantities.specs.Limits.{rowCapacity};
 ghost use Rattle.quantities.specs.Paper.{faultPaper};
-ghost use Rattle.analysis.specs.Analysis.{numbers};
+ghost use Rattle.quantities.specs.Lengths.{numbers};
 ghost use Rattle.lines.specs.Buffer.{Puts};
 ghost use Rattle.lines.specs.Lines.{lineRoom};
 ghost use Rattle.text.specs.Text.{linesUpTo, paperLine, sheetText};

@@ -7,6 +7,7 @@ use lib.ListN.{replicate}
 use Rattle.quantities.specs.Limits.{rowCapacity}
 use Rattle.quantities.specs.Table.{rowsOf}
 use Rattle.quantities.specs.Checks.{listFault}
+use Rattle.quantities.specs.Lengths.{ticks, inArray}
 use Rattle.quantities.specs.declared.Row.{Row}
 use Rattle.quantities.specs.declared.Fault.{Fault}
 use Rattle.quantities.proofs.Checks.{checked-sound, checked-faulty}
@@ -16,7 +17,7 @@ use Rattle.windows.specs.Bound.{boundsBelow}
 use Rattle.windows.specs.Answer.{judged, verdict}
 use Rattle.windows.specs.declared.Answer.the-variants.{Refused}
 use Rattle.windows.proofs.Judgement.{judged-sound, judged-faulty}
-use Rattle.analysis.specs.Analysis.{ticks, inArray, analysisOf}
+use Rattle.analysis.specs.Analysis.{analysisOf}
 use borrow.Author.Needs.{needs}
 use Rattle.analysis.proofs.analyse.Statement.{statement}
 use Rattle.analysis.proofs.analyse.Tie as tie

@@ -6,10 +6,10 @@ use native.Mathlib.Omega.{arith}
 use borrow.Author.Needs.{needs}
 use Rattle.laws.proofs.Numbers.{div-mul-add-mod-le}
 use Rattle.quantities.specs.Row.{cost, gap}
+use Rattle.quantities.specs.Lengths.{ticks}
 use Rattle.quantities.specs.declared.Row.{Row}
 use Rattle.quantities.specs.declared.Ticks.{Ticks}
 use Rattle.windows.specs.Window.{carry}
-use Rattle.analysis.specs.Analysis.{ticks}
 use Rattle.analysis.proofs.carry_work.Statement.{statement}
 use Rattle.analysis.proofs.carry_work.Tie as tie
 

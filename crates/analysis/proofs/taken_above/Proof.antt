@@ -10,13 +10,13 @@ use lib.ListN.{length, getD}
 use Rattle.laws.proofs.Lists.{getD-repeated}
 use Rattle.quantities.specs.Limits.{coreLimit}
 use Rattle.quantities.specs.Table.{rowsOf}
+use Rattle.quantities.specs.Lengths.{numbers}
 use Rattle.quantities.specs.declared.Table.{Table}
 use Rattle.quantities.specs.declared.Ticks.{Ticks}
 use Rattle.windows.specs.Choice.{Bounded, bounded, InRange, Load, load, loads, most}
 use Rattle.windows.specs.Jump.{room, rooms, roomy, leastRoom}
 use Rattle.windows.specs.Judgement.{rowOfIndex}
 use Rattle.windows.proofs.Room.{stride-in, stride-out}
-use Rattle.analysis.specs.Analysis.{numbers}
 use Rattle.analysis.specs.Engine.{largestWindow, ShortGap, above, raisedAt, countWith, leastWith, LoadIs, TakenIs}
 use Rattle.analysis.proofs.Above.{entry, entry-above, each-entry}
 use Rattle.analysis.proofs.Small.{few-above, most-small, load-small}

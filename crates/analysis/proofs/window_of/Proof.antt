@@ -8,6 +8,7 @@ use lib.ListN.{length}
 use borrow.Author.Needs.{needs}
 use Rattle.laws.specs.Each.{Each}
 use Rattle.quantities.specs.Limits.{rowCapacity}
+use Rattle.quantities.specs.Lengths.{ticks}
 use Rattle.windows.specs.Choice.{Bounded, InRange, Passes}
 use Rattle.windows.specs.Jump.{next, rooms, reach}
 use Rattle.windows.specs.Bound.{window}
@@ -16,7 +17,6 @@ use Rattle.windows.proofs.Jump.{next-means}
 use Rattle.windows.proofs.Room.{stride-le-top}
 use Rattle.windows.proofs.Far.{reach-jumps}
 use Rattle.windows.proofs.Bound.{window-some, window-none}
-use Rattle.analysis.specs.Analysis.{ticks}
 use Rattle.analysis.specs.declared.Found.the-variants.{At, Nothing}
 use Rattle.analysis.specs.Engine.{largestWindow, above, foundOf, TakenIs}
 use Rattle.analysis.proofs.Small.{few-above, most-small}

@@ -5,13 +5,13 @@ use mathlib.Core.Path.{_≡_, ap, _∙_}
 use mathlib.Core.List.{List}
 use lib.ListN.{length}
 use Rattle.quantities.specs.Table.{rowsOf}
+use Rattle.quantities.specs.Lengths.{numbers}
 use Rattle.quantities.specs.declared.Row.{Row}
 use Rattle.quantities.specs.declared.Table.{Table}
 use Rattle.quantities.proofs.Rows.{length-rows}
 use Rattle.windows.specs.Answer.{Judged, judgedInto, paperOf}
 use Rattle.windows.specs.declared.Answer.{Answer}
 use Rattle.lentrows.specs.Loaded.{tableOf}
-use Rattle.analysis.specs.Analysis.{numbers}
 use Rattle.lentrows.specs.Lent.{firstOf, toldOf}
 use Rattle.lentrows.specs.declared.Told.{Told}
 use Rattle.exports.specs.Exported.{rowsFrom, codeOf, FitsCode, Exported}

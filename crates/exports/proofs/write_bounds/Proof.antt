@@ -6,8 +6,8 @@ use mathlib.Core.Path.{_≡_, refl, ap, _∙_}
 use mathlib.Core.List.{List}
 use lib.ListN.{length, set, getD, length-map, length-set, List·getD-map}
 use Rattle.quantities.specs.Limits.{rowCapacity}
+use Rattle.quantities.specs.Lengths.{ticks, numbers}
 use Rattle.quantities.specs.declared.Ticks.{Ticks}
-use Rattle.analysis.specs.Analysis.{ticks, numbers}
 use Rattle.lentrows.specs.Lent.{firstOf}
 use Rattle.lentrows.proofs.Written.{first-next}
 use borrow.Author.Needs.{needs}

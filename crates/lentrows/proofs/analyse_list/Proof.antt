@@ -41,8 +41,8 @@ use denote.Triple.Table.{entered, cited}
 use denote.Triple.Walked.{says, Stays, stay-none-slice, stay-none, gave-slice, walkOf, Walks, ends-at, walked, goes-none-slice, goes-none, goes-gave-slice, walk-meets}
 use Rattle.quantities.specs.Limits.{rowCapacity}
 use Rattle.quantities.specs.Table.{rowsOf}
+use Rattle.quantities.specs.Lengths.{numbers}
 use Rattle.windows.specs.Answer.{judgedInto}
-use Rattle.analysis.specs.Analysis.{numbers}
 use Rattle.lentrows.specs.Loaded.{loaded, tableOf}
 use Rattle.lentrows.specs.Lent.{LentAnalysis, firstOf, toldOf}
 use Rattle.lentrows.proofs.Loaded.{into-loaded}

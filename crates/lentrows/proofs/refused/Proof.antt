@@ -1,6 +1,6 @@
 -- refused tells the fault, with no bound.
 use mathlib.Core.Path.{refl}
-use Rattle.analysis.specs.Analysis.{inArray}
+use Rattle.quantities.specs.Lengths.{inArray}
 use Rattle.lentrows.specs.Lent.{toldOf}
 use Rattle.lentrows.proofs.refused.Statement.{statement}
 use Rattle.lentrows.proofs.refused.Tie as tie

@@ -49,8 +49,8 @@ use denote.Triple.Spec.{Meets, tripleOf}
 use denote.Triple.Table.{entered, cited}
 use denote.Triple.Walked.{says, needs, Stays, stay-slice, stay-none, walkOf, Walks, ends-at, walked, goes-slice, goes-none, walk-meets}
 use Rattle.quantities.specs.Limits.{rowCapacity}
+use Rattle.quantities.specs.Lengths.{ticks}
 use Rattle.quantities.specs.declared.Ticks.{Ticks}
-use Rattle.analysis.specs.Analysis.{ticks}
 use Rattle.lentrows.specs.Lent.{firstOf}
 use Rattle.lentrows.specs.declared.Told.{Told}
 use Rattle.lentrows.proofs.Written.{first-next, first-long}

@@ -7,8 +7,8 @@ use mathlib.Core.Path.{_≡_, refl}
 use mathlib.Core.List.{List, _++_}
 use lib.ListN.{length, getD, length-append, List·getD-map}
 use Rattle.quantities.specs.Row.{deadline}
+use Rattle.quantities.specs.Lengths.{ticks, numbers}
 use Rattle.quantities.specs.declared.Ticks.{Ticks}
-use Rattle.analysis.specs.Analysis.{ticks, numbers}
 use Rattle.sheet.specs.Entries.{noEntry}
 use Rattle.sheet.specs.declared.Entry.{Entry}
 use Rattle.lines.specs.Buffer.{Puts}
