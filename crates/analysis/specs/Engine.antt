@@ -6,7 +6,7 @@ use mathlib.Core.List.{List}
 use lib.ListN.{length, getD}
 use Rattle.laws.specs.Each.{Each}
 use Rattle.quantities.specs.Limits.{rowCapacity, coreLimit, largestGap}
-use Rattle.quantities.specs.Row.{deadline, gap}
+use Rattle.quantities.specs.Row.{cost, deadline, gap}
 use Rattle.quantities.specs.Table.{rowsOf}
 use Rattle.quantities.specs.Lengths.{numbers, ticks}
 use Rattle.quantities.specs.declared.Table.{Table}
@@ -39,9 +39,10 @@ pub record Ready (cores : ℕ) (table : Table) (bounds : List Ticks) (k : ℕ) :
   pub short : Each ShortGap (above table bounds k)
   pub range : Each InRange (above table bounds k)
 
--- The row with index k stands in the table, and its D is no longer than the longest window.
+-- The row with index k stands in the table; what it costs can be asked, and its D is no longer than the longest window.
 pub record CanSearch (table : Table) (k : ℕ) : Type 0 where
   pub stands : k < table .count
+  pub short-cost : cost (rowOfIndex (rowsOf table) k) ≤ largestGap
   pub short-deadline : deadline (rowOfIndex (rowsOf table) k) ≤ largestWindow
 
 -- The most that the rows take with m carriers, when one row more comes with this load; `mosts` has it for the rows so far.

@@ -1,7 +1,6 @@
 //! The engine: the bounds of a table's rows from the top, and the answer.
 ghost use mathlib.Core.Path.{_≡_};
 ghost use Prim.Native.Nat.{_+_, _*_, _/_, _≤_, _<_, min, max};
-ghost use Rattle.quantities.specs.Row.{cost, gap};
 ghost use Rattle.quantities.specs.Limits.{rowCapacity, largestGap};
 ghost use Rattle.quantities.specs.Table.{rowsOf};
 ghost use Rattle.windows.specs.Window.{plain, carry};
@@ -99,12 +98,12 @@ fn raise(
 
 // The most work of a row in a window without carry-in. It is at most the window, since C is at most T
 // (`plain-le-window`).
-fn plain_work(row: Row, window: Ticks) -> Ticks
-    requires { ⌜ (0 < gap row) × (cost row ≤ gap row) ⌝ }
-    ensures { λ r. ⌜ r ≡ record { 0 = plain (cost row) (gap row) (window .0) } ⌝ }
+fn plain_work(cost: Ticks, gap: Ticks, window: Ticks) -> Ticks
+    requires { ⌜ (0 < gap .0) × (cost .0 ≤ gap .0) ⌝ }
+    ensures { λ r. ⌜ r ≡ record { 0 = plain (cost .0) (gap .0) (window .0) } ⌝ }
 {
-    let cost = row.c.0;
-    let gap = row.t.0;
+    let cost = cost.0;
+    let gap = gap.0;
     let gaps = window.0 / gap;
     let rest = window.0 % gap;
     let whole = gaps * cost;
@@ -118,12 +117,12 @@ fn plain_work(row: Row, window: Ticks) -> Ticks
 
 // The most work of a row with this bound in a window with carry-in. It is at most the window, or one poll
 // (`carry-le-window`).
-fn carry_work(row: Row, bound: Ticks, window: Ticks) -> Ticks
-    requires { ⌜ (0 < cost row) × (cost row ≤ gap row) × (bound .0 ≤ gap row) ⌝ }
-    ensures { λ r. ⌜ r ≡ record { 0 = carry (cost row) (gap row) (bound .0) (window .0) } ⌝ }
+fn carry_work(cost: Ticks, gap: Ticks, bound: Ticks, window: Ticks) -> Ticks
+    requires { ⌜ (0 < cost .0) × (cost .0 ≤ gap .0) × (bound .0 ≤ gap .0) ⌝ }
+    ensures { λ r. ⌜ r ≡ record { 0 = carry (cost .0) (gap .0) (bound .0) (window .0) } ⌝ }
 {
-    let cost = row.c.0;
-    let gap = row.t.0;
+    let cost = cost.0;
+    let gap = gap.0;
     if window.0 < cost {
         return Ticks(cost);
     }
@@ -175,9 +174,10 @@ fn load_of(own: Ticks, window: Ticks, row: Row, bound: Ticks) -> Load
     requires { ⌜ CanLoad (bounded row (bound .0)) (window .0) ⌝ }
     ensures { λ r. ⌜ LoadIs (own .0) (window .0) (bounded row (bound .0)) (r .without .0) (r .carrying .0) (r .room .0) ⌝ }
 {
-    let polls = polls_work(window, row.t, row.c);
-    let plain = plain_work(row, window);
-    let carry = carry_work(row, bound, window);
+    let cost = row.cost();
+    let polls = polls_work(window, row.t, cost);
+    let plain = plain_work(cost, row.t, window);
+    let carry = carry_work(cost, row.t, bound, window);
     let without = windows::interference(own, window, plain);
     let carrying = windows::interference(own, window, carry);
     let unfinished = polls.0 - without.0;
@@ -264,7 +264,8 @@ fn bound_of(cores: u32, table: Table, bounds: [Ticks; Table::ROW_CAPACITY], k: u
     ensures { λ r. ⌜ r ≡ foundOf (boundOf cores (above table bounds k) (rowOfIndex (rowsOf table) k)) ⌝ }
 {
     let row = table.rows[k];
-    window_of(cores, table, bounds, k, row.c, row.d)
+    let own = row.cost();
+    window_of(cores, table, bounds, k, own, row.d)
 }
 
 // The bounds of a sound table's rows from the top, up to the first row that has none, which is then named.

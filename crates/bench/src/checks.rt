@@ -29,7 +29,7 @@ fn row_broken(now: Instant, row: Row, state: RowState) -> bool
     if last_broken(now, last, state.left) {
         return true;
     }
-    if row.c.0 < state.demand.0 {
+    if row.costs_less(state.demand) {
         return true;
     }
     state.demand.0 < state.left.0

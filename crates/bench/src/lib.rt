@@ -225,7 +225,7 @@ impl Bench {
         if demand.0 == 0 {
             return Outcome::Refused(Refusal::WrongDemand(place));
         }
-        if row.c.0 < demand.0 {
+        if row.costs_less(demand) {
             return Outcome::Refused(Refusal::WrongDemand(place));
         }
         if too_soon(self.now, row.t, last) {

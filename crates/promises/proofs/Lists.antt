@@ -10,9 +10,10 @@ use Rattle.quantities.specs.declared.Row.{Row}
 use Rattle.quantities.specs.declared.Fault.{Fault}
 use Rattle.quantities.specs.Row.{SoundRow, rowOf}
 use Rattle.quantities.specs.Paper.{paper, faultPaper}
-use Rattle.quantities.specs.Checks.{Check, check, rowChecks, rowsChecks, listChecks, roomChecks, firstFailing, faultFrom}
+use Rattle.quantities.specs.Checks.{Check, check, isLast, rowChecks, rowsChecks, listChecks, roomChecks, firstFailing, faultFrom}
 use Rattle.quantities.specs.Checks.{FirstFailing, SoundList, listFault}
 use Rattle.quantities.proofs.Sound.{first-found, sound-list-means}
+use Rattle.quantities.proofs.SoundRows.{sound-rows-each, each-sound-rows}
 use Rattle.quantities.proofs.Paper.{fault-first}
 use Rattle.quantities.proofs.Checks.{list-fault-many-rows, list-fault-many-cores, list-fault-rows, row-fault-6, rows-fault-here}
 use Rattle.windows.specs.declared.Answer.the-variants.{Refused}
@@ -40,7 +41,7 @@ use Rattle.promises.specs.Lists.{
 pub rows-order : (place : ℕ) (rows : List Row) → rowsOrder place rows ≡ rowsChecks place rows
 unfolding rowChecks rowsChecks
 rows-order place [] = refl
-rows-order place (row ∷ rows) = ap (λ (later : List Check). rowChecks place row ++ later) (rows-order (suc place) rows)
+rows-order place (row ∷ rows) = ap (λ (later : List Check). rowChecks place (isLast rows) row ++ later) (rows-order (suc place) rows)
 
 pub list-order : (cores : ℕ) (rows : List Row) → listOrder cores rows ≡ listChecks cores rows
 unfolding listChecks
@@ -111,7 +112,7 @@ sound-in-range cores rows r =
       few-rows = r .rows-in-range .few-rows;
       some-cores = r .some-cores;
       few-cores = r .few-cores;
-      sound-rows = each-map row-sound rows (r .rows-in-range .each);
+      sound-rows = each-sound-rows rows (each-map row-sound rows (r .rows-in-range .each));
     }
 
 pub in-range-sound : (cores : ℕ) (rows : List Row) → SoundList cores rows → ListInRange cores rows
@@ -123,7 +124,7 @@ in-range-sound cores rows s =
           record {
             some-rows = s .some-rows;
             few-rows = s .few-rows;
-            each = each-map row-in-range rows (s .sound-rows);
+            each = each-map row-in-range rows (sound-rows-each rows (s .sound-rows));
           };
     }
 
@@ -184,5 +185,5 @@ gaps-to-1000000 cores c d one few work in-time in-gap = (
       rw (judged-faulty cores (long ∷ []) (faultAt 6 1)
       (list-fault-rows cores (long ∷ []) (λ e. omega arith) (omega arith) (λ e. omega arith) few
       ∙ rows-fault-here 1 long [] (faultAt 6 1)
-      (row-fault-6 1 long (omega arith) (λ e. omega arith) in-time (omega arith) (omega arith)))) refl,
+      (row-fault-6 1 (isLast []) long (omega arith) (λ e. omega arith) in-time (omega arith) (omega arith)))) refl,
 )

@@ -8,10 +8,11 @@ use mathlib.Core.Option.{Option, none, some}
 use lib.ListN.{length}
 use borrow.Author.Tests.{eq-eqb, ne-eqb, lt-ltb, le-ltb}
 use Rattle.quantities.specs.Limits.{rowCapacity, coreLimit, largestGap}
-use Rattle.quantities.specs.Row.{cost, deadline, gap, SoundRow}
+use Rattle.quantities.specs.Row.{cost, deadline, gap}
 use Rattle.quantities.specs.Checks.{
   Check,
   check,
+  isLast,
   rowChecks,
   rowsChecks,
   listChecks,
@@ -22,6 +23,7 @@ use Rattle.quantities.specs.Checks.{
   rowsFault,
   listFault,
   lentFault,
+  SoundAt,
   checkedOf,
 }
 use Rattle.quantities.specs.declared.Row.{Row}
@@ -45,31 +47,33 @@ fault-is-some one = at (one .number) (one .place) (one .fails)
     at number (suc p) fails e = let z : _≡_ {A = ℕ} 0 1 = cc in omega arith
 
 -- The fault of a row by the first of its checks that fails.
-module _ (place : ℕ) (row : Row) (h : 0 < place) where
-  pub row-fault-3 : row .c .0 ≡ 0 → rowFault place row ≡ some (OneRow 3 place)
+module _ (place : ℕ) (last : Bool) (row : Row) (h : 0 < place) where
+  pub row-fault-3 : row .c .0 ≡ 0 → rowFault place last row ≡ some (OneRow 3 place)
   unfolding rowChecks firstFailing
   row-fault-3 no-work = simp (eq-eqb (row .c .0) 0 no-work) (fault-at-row 3 place h)
 
-  pub row-fault-4 : (row .c .0 ≡ 0 → ⊥) → deadline row < cost row → rowFault place row ≡ some (OneRow 4 place)
+  pub row-fault-4 : (row .c .0 ≡ 0 → ⊥) → deadline row < cost row → rowFault place last row ≡ some (OneRow 4 place)
   unfolding rowChecks firstFailing
   row-fault-4 work late =
       simp (ne-eqb (row .c .0) 0 work, lt-ltb (deadline row) (cost row) late) (fault-at-row 4 place h)
 
-  pub row-fault-5 : (row .c .0 ≡ 0 → ⊥) → cost row ≤ deadline row → gap row < deadline row → rowFault place row ≡ some (OneRow 5 place)
+  pub row-fault-5 : (row .c .0 ≡ 0 → ⊥) → cost row ≤ deadline row → gap row < deadline row
+      → rowFault place last row ≡ some (OneRow 5 place)
   unfolding rowChecks firstFailing
   row-fault-5 work in-time wide =
       simp (ne-eqb (row .c .0) 0 work, le-ltb (deadline row) (cost row) in-time, lt-ltb (gap row) (deadline row) wide) (fault-at-row 5 place h)
 
-  pub row-fault-6 : (row .c .0 ≡ 0 → ⊥) → cost row ≤ deadline row → deadline row ≤ gap row → largestGap < gap row → rowFault place row ≡ some (OneRow 6 place)
+  pub row-fault-6 : (row .c .0 ≡ 0 → ⊥) → cost row ≤ deadline row → deadline row ≤ gap row → largestGap < gap row
+      → rowFault place last row ≡ some (OneRow 6 place)
   unfolding rowChecks firstFailing
   row-fault-6 work in-time in-gap long =
       simp (ne-eqb (row .c .0) 0 work, le-ltb (deadline row) (cost row) in-time, le-ltb (gap row) (deadline row) in-gap, lt-ltb largestGap (gap row) long)
       (fault-at-row 6 place h)
 
--- A sound row has no fault.
-pub row-fault-none : (place : ℕ) (row : Row) → SoundRow row → rowFault place row ≡ none
+-- A row that is sound where it stands has no fault.
+pub row-fault-none : (place : ℕ) (last : Bool) (row : Row) → SoundAt last row → rowFault place last row ≡ none
 unfolding rowChecks firstFailing faultFrom
-row-fault-none place row s =
+row-fault-none place last row s =
     simp (ne-eqb (row .c .0) 0 (omega arith), le-ltb (deadline row) (cost row) (s .in-time), le-ltb (gap row) (deadline row) (s .in-gap), le-ltb largestGap (gap row) (s .short-gap))
 
 -- Of two lists of checks, the first decides where one of its checks fails, else the second does.
@@ -92,13 +96,15 @@ fault-in-second (one ∷ a) b e = go (one .fails) refl (fault-in-second a b)
     go false q later = rw (q, firstFailing) (later (rw (q, firstFailing) at e))
 
 -- The rows at a place and below: the first row decides where it has a fault, else the rows below it do.
-pub rows-fault-here : (place : ℕ) (row : Row) (rows : List Row) (f : Fault) → rowFault place row ≡ some f → rowsFault place (row ∷ rows) ≡ some f
+pub rows-fault-here : (place : ℕ) (row : Row) (rows : List Row) (f : Fault)
+    → rowFault place (isLast rows) row ≡ some f → rowsFault place (row ∷ rows) ≡ some f
 unfolding rowsChecks
-rows-fault-here place row rows f = fault-in-first (rowChecks place row) (rowsChecks (suc place) rows) f
+rows-fault-here place row rows f = fault-in-first (rowChecks place (isLast rows) row) (rowsChecks (suc place) rows) f
 
-pub rows-fault-below : (place : ℕ) (row : Row) (rows : List Row) → rowFault place row ≡ none → rowsFault place (row ∷ rows) ≡ rowsFault (suc place) rows
+pub rows-fault-below : (place : ℕ) (row : Row) (rows : List Row)
+    → rowFault place (isLast rows) row ≡ none → rowsFault place (row ∷ rows) ≡ rowsFault (suc place) rows
 unfolding rowsChecks
-rows-fault-below place row rows = fault-in-second (rowChecks place row) (rowsChecks (suc place) rows)
+rows-fault-below place row rows = fault-in-second (rowChecks place (isLast rows) row) (rowsChecks (suc place) rows)
 
 pub rows-fault-none : (place : ℕ) → rowsFault place [] ≡ none
 unfolding rowsChecks firstFailing faultFrom

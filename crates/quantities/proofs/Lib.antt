@@ -1,5 +1,6 @@
 -- Laws of the quantities' definitions.
 pub mod Checks
 pub mod Sound
+pub mod SoundRows
 pub mod Paper
 pub mod Rows

@@ -12,8 +12,9 @@ use borrow.Author.Tests.{ltb-false, eqb-false}
 use Rattle.laws.specs.Each.{Each}
 use Rattle.laws.proofs.Tests.{or-false}
 use Rattle.quantities.specs.Limits.{rowCapacity, coreLimit, largestGap}
-use Rattle.quantities.specs.Row.{cost, deadline, gap, SoundRow}
-use Rattle.quantities.specs.Checks.{Check, rowChecks, firstFailing, faultFrom, rowFault, rowsFault, listFault, listChecks, SoundList, FirstFailing}
+use Rattle.quantities.specs.Row.{cost, deadline, gap}
+use Rattle.quantities.specs.Checks.{Check, isLast, rowChecks, firstFailing, faultFrom, rowFault, rowsFault, listFault, listChecks}
+use Rattle.quantities.specs.Checks.{SoundAt, SoundRows, SoundList, FirstFailing}
 use Rattle.quantities.specs.declared.Row.{Row}
 use Rattle.quantities.specs.declared.Fault.{Fault}
 use Rattle.quantities.proofs.Checks.{fault-is-some, row-fault-none, rows-fault-here, rows-fault-below, rows-fault-none, list-fault-rows}
@@ -74,11 +75,11 @@ fault-none checks e = go (firstFailing checks) refl
     go none q = q
     go (some one) q = absurd (fault-is-some one (rw q at e))
 
--- a row without fault is sound
-pub sound-row : (place : ℕ) (row : Row) → rowFault place row ≡ none → SoundRow row
+-- a row without fault is sound where it stands
+pub sound-row : (place : ℕ) (last : Bool) (row : Row) → rowFault place last row ≡ none → SoundAt last row
 unfolding rowChecks
-sound-row place row e =
-    let tests = none-fails (rowChecks place row) (fault-none (rowChecks place row) e) in
+sound-row place last row e =
+    let tests = none-fails (rowChecks place last row) (fault-none (rowChecks place last row) e) in
     record {
       some-work = let n = eqb-false (row .c .0) 0 (tests .0) in omega arith;
       in-time = ltb-false (deadline row) (cost row) (tests .1 .0);
@@ -86,22 +87,23 @@ sound-row place row e =
       short-gap = ltb-false largestGap (gap row) (tests .1 .1 .1 .0);
     }
 
-pub sound-row-means : (place : ℕ) (row : Row) → (rowFault place row ≡ none) ↔ SoundRow row
-sound-row-means place row = (sound-row place row, row-fault-none place row)
+pub sound-row-means : (place : ℕ) (last : Bool) (row : Row) → (rowFault place last row ≡ none) ↔ SoundAt last row
+sound-row-means place last row = (sound-row place last row, row-fault-none place last row)
 
--- rows without fault are each sound
-pub sound-rows-means : (place : ℕ) (rows : List Row) → (rowsFault place rows ≡ none) ↔ Each SoundRow rows
+-- rows without fault are sound
+pub sound-rows-means : (place : ℕ) (rows : List Row) → (rowsFault place rows ≡ none) ↔ SoundRows rows
 sound-rows-means place [] = ((λ e. tt), (λ e. rows-fault-none place))
-sound-rows-means place (row ∷ rows) = go (rowFault place row) refl (sound-rows-means (suc place) rows)
+sound-rows-means place (row ∷ rows) = go (rowFault place (isLast rows) row) refl (sound-rows-means (suc place) rows)
   where
-    go : (found : Option Fault) → rowFault place row ≡ found → (rowsFault (suc place) rows ≡ none) ↔ Each SoundRow rows
-        → (rowsFault place (row ∷ rows) ≡ none) ↔ (SoundRow row × Each SoundRow rows)
+    go : (found : Option Fault) → rowFault place (isLast rows) row ≡ found
+        → (rowsFault (suc place) rows ≡ none) ↔ SoundRows rows
+        → (rowsFault place (row ∷ rows) ≡ none) ↔ SoundRows (row ∷ rows)
     go none q below =
         let same = rows-fault-below place row rows q in
-        ((λ e. (sound-row place row q, below .0 (sym same ∙ e))), (λ e. same ∙ below .1 (e .1)))
+        ((λ e. (sound-row place (isLast rows) row q, below .0 (sym same ∙ e))), (λ e. same ∙ below .1 (e .1)))
     go (some f) q below = (
       (λ e. let z : _≡_ {A = ℕ} 0 1 = cc (rows-fault-here place row rows f q) in absurd (omega arith)),
-      (λ e. let z : _≡_ {A = ℕ} 0 1 = cc (row-fault-none place row (e .0)) in absurd (omega arith)),
+      (λ e. let z : _≡_ {A = ℕ} 0 1 = cc (row-fault-none place (isLast rows) row (e .0)) in absurd (omega arith)),
     )
 
 -- A list has no fault exactly where it is sound.

@@ -24,9 +24,15 @@ pub record Check : Type 0 where
 abbrev pub check : ℕ → ℕ → Bool → Check
 check number place fails = record { number = number; place = place; fails = fails }
 
--- the checks of the row at a place; 3 speaks of C itself
-unfoldable pub rowChecks : ℕ → Row → List Check
-rowChecks place row =
+-- whether a row is the last of a list, by the rows that stand below it
+abbrev pub isLast : List Row → Bool
+isLast [] = true
+isLast (below ∷ rows) = false
+
+-- the checks of the row at a place, which is the last of its list or not; 3 speaks of C itself
+-- (the last row is checked as any other; 7/14 is to except it from 5, and to have 6 speak of its D)
+unfoldable pub rowChecks : (place : ℕ) (last : Bool) → Row → List Check
+rowChecks place last row =
     check 3 place (eqb (row .c .0) 0)
     ∷ check 4 place (ltb (deadline row) (cost row))
     ∷ check 5 place (ltb (gap row) (deadline row))
@@ -36,7 +42,7 @@ rowChecks place row =
 -- the checks of rows that stand at a place and below, row by row
 unfoldable pub rowsChecks : ℕ → List Row → List Check
 rowsChecks place [] = []
-rowsChecks place (row ∷ rows) = rowChecks place row ++ rowsChecks (suc place) rows
+rowsChecks place (row ∷ rows) = rowChecks place (isLast rows) row ++ rowsChecks (suc place) rows
 
 -- the checks of a list of rows for a board with this many cores: 1, 2, then 3 to 6 of each row
 unfoldable pub listChecks : ℕ → List Row → List Check
@@ -60,8 +66,8 @@ faultFrom none = none
 faultFrom (some one) = elim (one .place) [ zero ↦ some (WholeList (one .number)) | suc p ↦ some (OneRow (one .number) (suc p)) ]
 
 -- the fault of the row at a place, if it has one: checks 3 to 6
-abbrev pub rowFault : ℕ → Row → Option Fault
-rowFault place row = faultFrom (firstFailing (rowChecks place row))
+abbrev pub rowFault : (place : ℕ) (last : Bool) → Row → Option Fault
+rowFault place last row = faultFrom (firstFailing (rowChecks place last row))
 
 -- the fault of rows that stand at a place and below
 abbrev pub rowsFault : ℕ → List Row → Option Fault
@@ -75,13 +81,22 @@ listFault cores rows = faultFrom (firstFailing (listChecks cores rows))
 unfoldable pub lentFault : ℕ → ℕ → List Row → Option Fault
 lentFault cores entries rows = faultFrom (firstFailing (listChecks cores rows ++ roomChecks entries rows))
 
+-- A row that passes checks 3 to 6 where it stands, as the last of its list or not.
+abbrev pub SoundAt : (last : Bool) → Row → Type 0
+SoundAt last row = SoundRow row
+
+-- Rows that pass checks 3 to 6, each where it stands.
+abbrev pub SoundRows : List Row → Type 0
+SoundRows [] = Unit
+SoundRows (row ∷ rows) = SoundAt (isLast rows) row × SoundRows rows
+
 -- A list that passes checks 1 to 6 on a board with this many cores.
 pub record SoundList (cores : ℕ) (rows : List Row) : Type 0 where
   pub some-rows : 0 < length rows
   pub few-rows : length rows ≤ rowCapacity
   pub some-cores : 0 < cores
   pub few-cores : cores ≤ coreLimit
-  pub sound-rows : Each SoundRow rows
+  pub sound-rows : SoundRows rows
 
 -- One check is the first of a list that fails: it stands there, it fails, and no check before it does.
 pub record FirstFailing (checks : List Check) (one : Check) : Type 0 where

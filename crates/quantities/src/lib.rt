@@ -2,6 +2,8 @@
 ghost use mathlib.Core.Path.{_≡_};
 ghost use Rattle.quantities.specs.Limits.{rowCapacity, coreLimit, largestGap};
 ghost use Prim.Native.Nat.{_≤_, _<_};
+ghost use lib.Dec.{ltb};
+ghost use Rattle.quantities.specs.Row.{cost};
 ghost use Rattle.quantities.specs.Table.{rowsOf, emptyTable, withRow};
 ghost use Rattle.quantities.specs.Checks.{rowFault, rowsFault, listFault, checkedOf};
 
@@ -39,15 +41,39 @@ pub enum Checked {
     Faulty(Fault),
 }
 
-// Checks 3 to 6 of the row at a place.
-fn check_row(row: Row, place: usize) -> Checked
+impl Row {
+    // The most ticks that one poll takes, of a row that passed the checks.
+    pub fn cost(self) -> Ticks
+        requires { ⌜ cost self ≤ largestGap ⌝ }
+        ensures { λ r. ⌜ r .0 ≡ cost self ⌝ }
+    {
+        Ticks(self.c.0)
+    }
+
+    // Whether one poll takes more than so many ticks. Asked of any row, so nothing is added up.
+    fn costs_more(self, than: Ticks) -> bool
+        ensures { λ r. ⌜ r ≡ ltb (than .0) (cost self) ⌝ }
+    {
+        than.0 < self.c.0
+    }
+
+    // Whether one poll takes less than so many ticks. Asked of any row, as above.
+    pub fn costs_less(self, than: Ticks) -> bool
+        ensures { λ r. ⌜ r ≡ ltb (cost self) (than .0) ⌝ }
+    {
+        self.c.0 < than.0
+    }
+}
+
+// Checks 3 to 6 of the row at a place, which is the last of its table or not: no check of today asks.
+fn check_row(row: Row, place: usize, last: bool) -> Checked
     requires { ⌜ 0 < place ⌝ }
-    ensures { λ r. ⌜ r ≡ checkedOf (rowFault place row) ⌝ }
+    ensures { λ r. ⌜ r ≡ checkedOf (rowFault place last row) ⌝ }
 {
     if row.c.0 == 0 {
         return Checked::Faulty(Fault::OneRow(3, place));
     }
-    if row.d.0 < row.c.0 {
+    if row.costs_more(row.d) {
         return Checked::Faulty(Fault::OneRow(4, place));
     }
     if row.t.0 < row.d.0 {
@@ -67,7 +93,9 @@ fn check_rows(table: Table) -> Checked
     let mut i: usize = 0;
     while i < table.count {
         let row = table.rows[i];
-        let found = check_row(row, i + 1);
+        let place = i + 1;
+        let last = place == table.count;
+        let found = check_row(row, place, last);
         match found {
             Checked::Sound => {}
             Checked::Faulty(fault) => {

@@ -13,6 +13,7 @@ use Rattle.quantities.specs.declared.Table.{Table}
 use Rattle.quantities.specs.Table.{rowsOf}
 use Rattle.quantities.specs.Checks.{SoundList}
 use Rattle.quantities.specs.Paper.{Paper, paper}
+use Rattle.quantities.proofs.SoundRows.{sound-rows-each}
 use Rattle.bench.specs.declared.Last.{Last}
 use Rattle.bench.specs.declared.Last.the-variants.{Never, At}
 use Rattle.bench.specs.declared.Bench.{Bench}
@@ -156,7 +157,7 @@ run-start cores table sound =
       inv =
           inv-start (sound .some-cores)
           (record { flags = []; vs = []; no-carrier = refl; no-work = refl; rows = no-rows })
-          (sound .sound-rows) (judged-walk cores (rowsOf table) sound) rowCapacity (sound .few-rows);
+          (sound-rows-each (rowsOf table) (sound .sound-rows)) (judged-walk cores (rowsOf table) sound) rowCapacity (sound .few-rows);
     }
 
 -- Demand 3: the bound of every row that has one holds on a running board.

@@ -5,13 +5,12 @@ use native.Mathlib.Numerals.{add-one}
 use mathlib.Core.Path.{sym, ap, _∙_}
 use mathlib.Core.List.{List}
 use lib.ListN.{length}
-use Rattle.laws.proofs.Lists.{each-at}
-use Rattle.quantities.specs.Row.{SoundRow, noRow}
 use Rattle.quantities.specs.declared.Ticks.{Ticks}
 use Rattle.windows.specs.declared.Answer.the-variants.{NotShown}
 use Rattle.analysis.specs.declared.Analysis.{Analysis}
 use Rattle.quantities.specs.Table.{rowsOf}
 use Rattle.quantities.proofs.Rows.{length-rows}
+use Rattle.quantities.proofs.SoundRows.{sound-row-at}
 use borrow.Author.Needs.{needs}
 use Rattle.analysis.proofs.SoFar.{SoFar, so-far-start, so-far-next, so-far-stop, so-far-all, found-some, found-none}
 use Rattle.analysis.proofs.bounds_of.Statement.{statement}
@@ -38,7 +37,7 @@ bound-of-requires c κs =
     let rows = rowsOf (s .args .table) in
     let i = c .before .before .loop .i in
     let inside : i < length rows = omega (arith, length-rows (s .args .table)) in
-    let sound = each-at SoundRow rows i noRow inside (s .pre .sound-rows) in (
+    let sound = sound-row-at rows i inside (s .pre .sound-rows) in (
       record {
         some-cores = s .pre .some-cores;
         few-cores = s .pre .few-cores;
@@ -47,7 +46,7 @@ bound-of-requires c κs =
         short = so .short;
         range = so .range;
       },
-      record { stands = omega arith; short-deadline = omega arith },
+      record { stands = omega arith; short-cost = omega arith; short-deadline = omega arith },
     )
 
 enum-known-found : tie.Need-enum-known-found Inv-loop μ-loop
@@ -84,7 +83,7 @@ loop-again c =
     let s = c .before .before .before .before .before .before .before in
     let at = c .before .before .before .before .before .before .loop in
     let rows = rowsOf (s .args .table) in
-    let sound = each-at SoundRow rows (at .i) noRow (omega (arith, length-rows (s .args .table))) (s .pre .sound-rows) in
+    let sound = sound-row-at rows (at .i) (omega (arith, length-rows (s .args .table))) (s .pre .sound-rows) in
     let x = c .before .found .given .0 .0 in
     let some = found-some _ x (sym (c .before .before .before .bound-of .ensures) ∙ c .before .found .given .1) in
     rw (add-one (at .i)) (so-far-next (s .args .cores) (s .args .table) (at .bounds) (at .i) (at .inv) (omega arith) (x .0) sound some)

@@ -5,24 +5,22 @@ use native.Mathlib.Nat.{zero-div, zero-mod}
 use native.Mathlib.Omega.{arith}
 use borrow.Author.Needs.{needs}
 use Rattle.laws.proofs.Numbers.{div-mul-add-mod-le}
-use Rattle.quantities.specs.Row.{cost, gap}
 use Rattle.quantities.specs.Lengths.{ticks}
-use Rattle.quantities.specs.declared.Row.{Row}
 use Rattle.quantities.specs.declared.Ticks.{Ticks}
 use Rattle.windows.specs.Window.{carry}
 use Rattle.analysis.proofs.carry_work.Statement.{statement}
 use Rattle.analysis.proofs.carry_work.Tie as tie
 
 -- the window before its last poll holds the whole gaps' polls and the rest
-within : (row : Row) (window : Ticks) → cost row ≤ gap row
-    → (window .0 - cost row) / gap row * cost row + (window .0 - cost row) % gap row ≤ window .0 - cost row
-within row window h = div-mul-add-mod-le (window .0 - cost row) (gap row) (cost row) h
+within : (cost gap window : Ticks) → cost .0 ≤ gap .0
+    → (window .0 - cost .0) / gap .0 * cost .0 + (window .0 - cost .0) % gap .0 ≤ window .0 - cost .0
+within cost gap window h = div-mul-add-mod-le (window .0 - cost .0) (gap .0) (cost .0) h
 
 returns : tie.Need-returns
 unfolding carry
 returns c =
     let a = c .before .before .args in
-    let none : a .window .0 - a .row .c .0 ≡ 0 = omega arith in
+    let none : a .window .0 - a .cost .0 ≡ 0 = omega arith in
     rw (none, zero-div, zero-mod) (ap ticks (omega arith))
 
 div-gaps : tie.Need-div-gaps
@@ -34,12 +32,12 @@ rem-rest c = search needs
 mul-whole : tie.Need-mul-whole
 mul-whole c =
     let s = c .before .before .before in
-    omega (arith, within (s .args .row) (s .args .window) (s .pre .1))
+    omega (arith, within (s .args .cost) (s .args .gap) (s .args .window) (s .pre .1))
 
 add-whole : tie.Need-add-whole
 add-whole c =
     let s = c .before .before .before in
-    omega (arith, within (s .args .row) (s .args .window) (s .pre .1))
+    omega (arith, within (s .args .cost) (s .args .gap) (s .args .window) (s .pre .1))
 
 sub-idle : tie.Need-sub-idle
 sub-idle c = search needs
@@ -51,7 +49,7 @@ returns-2 c = ap ticks (omega arith)
 add-begun : tie.Need-add-begun
 add-begun c =
     let s = c .before .before .before .before .before .before in
-    omega (arith, within (s .args .row) (s .args .window) (s .pre .1))
+    omega (arith, within (s .args .cost) (s .args .gap) (s .args .window) (s .pre .1))
 
 returns-3 : tie.Need-returns-3
 unfolding carry
@@ -63,7 +61,7 @@ sub-full c = search needs
 add-full : tie.Need-add-full
 add-full c =
     let s = c .before .before .before .before .before .before in
-    omega (arith, within (s .args .row) (s .args .window) (s .pre .1))
+    omega (arith, within (s .args .cost) (s .args .gap) (s .args .window) (s .pre .1))
 
 returns-4 : tie.Need-returns-4
 unfolding carry

@@ -10,6 +10,9 @@ use borrow.Author.Needs.{needs}
 use Rattle.analysis.proofs.load_of.Statement.{statement}
 use Rattle.analysis.proofs.load_of.Tie as tie
 
+cost-requires : tie.Need-cost-requires
+cost-requires c κs = search needs
+
 polls-work-requires : tie.Need-polls-work-requires
 polls-work-requires c κs = search needs
 
@@ -36,16 +39,14 @@ carrying-le-carry own x b = interference-le-work own x (carry (cost (b .row)) (g
 
 sub-unfinished : tie.Need-sub-unfinished
 sub-unfinished c =
-    let a = c .before .before .before .before .before .before .before .args in
-    let polls = c .before .before .before .before .before .before .polls-work .ensures in
-    let plain = c .before .before .before .before .before .plain-work .ensures in
-    rw (c .before .before .before .interference .ensures, plain, polls)
+    let a = c .before .before .before .before .before .before .before .before .args in
+    rw (c .before .before .before .interference .ensures, c .before .before .before .before .before .plain-work .ensures, c .before .before .before .before .before .before .polls-work .ensures, c .before .before .before .before .before .before .before .cost .ensures)
     (without-le-polls (a .own .0) (a .window .0) (bounded (a .row) (a .bound .0)))
 
 sub-cut : tie.Need-sub-cut
 sub-cut c =
-    let a = c .before .before .before .before .before .before .before .before .before .args in
-    rw (c .before .before .before .before .interference2 .ensures, c .before .before .before .before .before .before .carry-work .ensures)
+    let a = c .before .before .before .before .before .before .before .before .before .before .args in
+    rw (c .before .before .before .before .interference2 .ensures, c .before .before .before .before .before .before .carry-work .ensures, c .before .before .before .before .before .before .before .before .before .cost .ensures)
     (carrying-le-carry (a .own .0) (a .window .0) (bounded (a .row) (a .bound .0)))
 
 smaller-requires : tie.Need-smaller-requires
@@ -54,21 +55,22 @@ smaller-requires c κs = search needs
 returns : tie.Need-returns
 unfolding room
 returns c =
-    let polls = c .before .before .before .before .before .before .before .before .before .polls-work .ensures in
+    let cost = c .before .before .before .before .before .before .before .before .before .before .cost .ensures in
     let plain = c .before .before .before .before .before .before .before .before .plain-work .ensures in
     let carry = c .before .before .before .before .before .before .before .carry-work .ensures in
     let without = c .before .before .before .before .before .before .interference .ensures in
     let carrying = c .before .before .before .before .before .interference2 .ensures in
     record {
-      without = simp (without, plain);
-      carrying = simp (carrying, carry);
-      roominess = simp (c .smaller .ensures, without, plain, carrying, carry, polls);
+      without = simp (without, plain, cost);
+      carrying = simp (carrying, carry, cost);
+      roominess = simp (c .smaller .ensures, without, plain, carrying, carry, c .before .before .before .before .before .before .before .before .before .polls-work .ensures, cost);
     }
 
 pub load-of-spec : {M : Type 1} → statement M
 load-of-spec =
     tie.close
     (tie.spec
+    cost-requires
     polls-work-requires
     plain-work-requires
     carry-work-requires

@@ -4,6 +4,7 @@ use native.Mathlib.Omega.{arith}
 use mathlib.Core.Path.{_≡_, sym, ap, _∙_}
 use mathlib.Core.Bool.{false}
 use borrow.Author.Needs.{needs}
+use borrow.Author.Tests.{ltb-true, ltb-false}
 use Rattle.quantities.specs.Limits.{rowCapacity}
 use Rattle.bench.specs.Record.{broken}
 use Rattle.bench.specs.Refusal.{outcomeOf}
@@ -79,16 +80,19 @@ returns-4 c =
     let whole = sym (k .broken .ensures) ∙ e2 .before .if1 .left in
     sym (ap outcomeOf (release-23-zero (a .t1) (a .place) (a .demand .0) whole (e2 .if2 .left) (e3 .if3 .left) (c .if4 .taken)))
 
+costs-less-requires : tie.Need-costs-less-requires
+costs-less-requires c κs = search needs
+
 returns-5 : tie.Need-returns-5
 unfolding outcomeOf
 returns-5 c =
-    let e4 = c .before .before .before in
+    let e4 = c .before .before in
     let e3 = e4 .before .before .before .before .before in
     let e2 = e3 .before in
     let k = e2 .before .before in
     let a = k .before .args in
     let whole = sym (k .broken .ensures) ∙ e2 .before .if1 .left in
-    sym (ap outcomeOf (release-23-above (a .t1) (a .place) (a .demand .0) whole (e2 .if2 .left) (e3 .if3 .left) (e4 .if4 .left) (c .if5 .taken)))
+    sym (ap outcomeOf (release-23-above (a .t1) (a .place) (a .demand .0) whole (e2 .if2 .left) (e3 .if3 .left) (e4 .if4 .left) (ltb-true _ _ (sym (c .before .costs-less .ensures) ∙ c .if5 .taken))))
 
 too-soon-requires : tie.Need-too-soon-requires
 too-soon-requires c κs = search needs
@@ -98,13 +102,14 @@ unfolding outcomeOf
 returns-6 c =
     let t = c .before in
     let e5 = t .before .before in
-    let e4 = e5 .before .before .before in
+    let fits = ltb-false _ _ (sym (e5 .before .costs-less .ensures) ∙ e5 .if5 .left) in
+    let e4 = e5 .before .before in
     let e3 = e4 .before .before .before .before .before in
     let e2 = e3 .before in
     let k = e2 .before .before in
     let a = k .before .args in
     let whole = sym (k .broken .ensures) ∙ e2 .before .if1 .left in
-    sym (ap outcomeOf (release-22 (a .t1) (a .place) (a .demand .0) whole (e2 .if2 .left) (e3 .if3 .left) (e4 .if4 .left) (e5 .if5 .left) (sym (t .too-soon .ensures) ∙ c .if6 .taken)))
+    sym (ap outcomeOf (release-22 (a .t1) (a .place) (a .demand .0) whole (e2 .if2 .left) (e3 .if3 .left) (e4 .if4 .left) fits (sym (t .too-soon .ensures) ∙ c .if6 .taken)))
 
 returns-7 : tie.Need-returns-7
 unfolding outcomeOf
@@ -112,13 +117,14 @@ returns-7 c =
     let e6 = c .before .before in
     let t = e6 .before in
     let e5 = t .before .before in
-    let e4 = e5 .before .before .before in
+    let fits = ltb-false _ _ (sym (e5 .before .costs-less .ensures) ∙ e5 .if5 .left) in
+    let e4 = e5 .before .before in
     let e3 = e4 .before .before .before .before .before in
     let e2 = e3 .before in
     let k = e2 .before .before in
     let a = k .before .args in
     let whole = sym (k .broken .ensures) ∙ e2 .before .if1 .left in
-    sym (ap outcomeOf (release-21 (a .t1) (a .place) (a .demand .0) whole (e2 .if2 .left) (e3 .if3 .left) (e4 .if4 .left) (e5 .if5 .left) (sym (t .too-soon .ensures) ∙ e6 .if6 .left) (c .if7 .taken)))
+    sym (ap outcomeOf (release-21 (a .t1) (a .place) (a .demand .0) whole (e2 .if2 .left) (e3 .if3 .left) (e4 .if4 .left) fits (sym (t .too-soon .ensures) ∙ e6 .if6 .left) (c .if7 .taken)))
 
 returns-8 : tie.Need-returns-8
 unfolding outcomeOf
@@ -126,13 +132,14 @@ returns-8 c =
     let e6 = c .before .before in
     let t = e6 .before in
     let e5 = t .before .before in
-    let e4 = e5 .before .before .before in
+    let fits = ltb-false _ _ (sym (e5 .before .costs-less .ensures) ∙ e5 .if5 .left) in
+    let e4 = e5 .before .before in
     let e3 = e4 .before .before .before .before .before in
     let e2 = e3 .before in
     let k = e2 .before .before in
     let a = k .before .args in
     let whole = sym (k .broken .ensures) ∙ e2 .before .if1 .left in
-    sym (ap outcomeOf (release-permitted (a .t1) (a .place) (a .demand .0) whole (e2 .if2 .left) (e3 .if3 .left) (e4 .if4 .left) (e5 .if5 .left) (sym (t .too-soon .ensures) ∙ e6 .if6 .left) (c .if7 .left)))
+    sym (ap outcomeOf (release-permitted (a .t1) (a .place) (a .demand .0) whole (e2 .if2 .left) (e3 .if3 .left) (e4 .if4 .left) fits (sym (t .too-soon .ensures) ∙ e6 .if6 .left) (c .if7 .left)))
 
 pub judge-release-spec : {M : Type 1} → statement M
 judge-release-spec =
@@ -148,6 +155,7 @@ judge-release-spec =
     mul-state
     element-copy-out-state
     returns-4
+    costs-less-requires
     returns-5
     too-soon-requires
     returns-6
