@@ -20,7 +20,7 @@ use Rattle.quantities.specs.declared.Ticks.{Ticks}
 use Rattle.quantities.proofs.Rows.{length-rows, rows-end}
 use Rattle.windows.specs.Choice.{Bounded, bounded, InRange}
 use Rattle.windows.specs.Bound.{boundOf, boundsBelow}
-use Rattle.windows.specs.Answer.{verdict}
+use Rattle.windows.specs.Answer.{lateNumber, verdict}
 use Rattle.windows.specs.Judgement.{rowOfIndex, aboveIndex}
 use Rattle.windows.specs.declared.Answer.the-variants.{Shown, NotShown}
 use Rattle.windows.proofs.Bound.{bound-in-range, bounds-on, bounds-stop, bounds-end}
@@ -136,7 +136,8 @@ module _ (cores : ℕ) (table : Table) (bounds : List Ticks) (i : ℕ)
 
     -- it has none
     pub so-far-stop : boundOf cores (above table bounds i) (rowOfIndex (rowsOf table) i) ≡ none
-        → record { answer = NotShown (suc i); bounds = bounds } ≡ analysisOf (verdict (table .count) (boundsBelow cores [] (rowsOf table)))
+        → record { answer = NotShown lateNumber (suc i); bounds = bounds }
+        ≡ analysisOf (verdict (table .count) (boundsBelow cores [] (rowsOf table)))
     unfolding analysisOf
     so-far-stop is =
         let (all, long, held) = ended (rw from (bounds-stop cores (above table bounds i) (rowOfIndex (rowsOf table) i) (drop (suc i) (rowsOf table)) is)) in

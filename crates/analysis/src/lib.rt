@@ -285,7 +285,7 @@ fn bounds_of(cores: u32, table: Table) -> Analysis
             Found::Nothing => {
                 let place = i + 1;
                 return Analysis {
-                    answer: Answer::NotShown(place),
+                    answer: Answer::NotShown(8, place),
                     bounds: bounds,
                 };
             }

@@ -59,7 +59,7 @@ fn code_of(answer: Answer) -> u64
 {
     match answer {
         Answer::Shown => 0,
-        Answer::NotShown(place) => code(8, place),
+        Answer::NotShown(number, place) => code(number, place),
         Answer::Refused(fault) => match fault {
             Fault::WholeList(number) => code(number, 0),
             Fault::OneRow(number, place) => code(number, place),

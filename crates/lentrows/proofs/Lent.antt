@@ -46,11 +46,13 @@ verdict-shown count bounds = go (eqb (length bounds) count) refl
     go true q e = eqb-true (length bounds) count q
     go false q e = let z : _≡_ {A = ℕ} 0 1 = cc (rw (q, verdict) at e) in absurd (omega arith)
 
-verdict-not-shown : (count place : ℕ) (bounds : List ℕ) → verdict count bounds .answer ≡ NotShown place → suc (length bounds) ≡ place
+verdict-not-shown : (count number place : ℕ) (bounds : List ℕ) → verdict count bounds .answer ≡ NotShown number place
+    → suc (length bounds) ≡ place
 unfolding verdict
-verdict-not-shown count place bounds = go (eqb (length bounds) count) refl
+verdict-not-shown count number place bounds = go (eqb (length bounds) count) refl
   where
-    go : (t : Bool) → eqb (length bounds) count ≡ t → verdict count bounds .answer ≡ NotShown place → suc (length bounds) ≡ place
+    go : (t : Bool) → eqb (length bounds) count ≡ t → verdict count bounds .answer ≡ NotShown number place
+        → suc (length bounds) ≡ place
     go true q e = let z : _≡_ {A = ℕ} 0 1 = cc (rw (q, verdict) at e) in absurd (omega arith)
     go false q e = cc (rw (q, verdict) at e)
 
@@ -97,14 +99,14 @@ shown-fills M rows before after = go (lentFault M (length before) rows) refl
 
 pub not-shown-leaves : NotShownLeaves
 unfolding judgedInto judgedAfter verdict
-not-shown-leaves M rows before after place = go (lentFault M (length before) rows) refl
+not-shown-leaves M rows before after number place = go (lentFault M (length before) rows) refl
   where
     go : (found : Option Fault) → lentFault M (length before) rows ≡ found
-        → LentAnalysis (judgedOver M rows before) before after (NotShown place)
+        → LentAnalysis (judgedOver M rows before) before after (NotShown number place)
         → Filled (place - 1) (judgedOver M rows before .bounds) before after
     go none q meets =
         let one-less =
-        verdict-not-shown (length rows) place (boundsBelow M [] rows) (sym (rw (q, judgedAfter) at (meets .answers))) in
+        verdict-not-shown (length rows) number place (boundsBelow M [] rows) (sym (rw (q, judgedAfter) at (meets .answers))) in
         filled (place - 1) (judgedOver M rows before) before after (rw (q, judgedAfter) (omega (arith, one-less)))
         (meets .leaves)
     go (some f) q meets = let z : _≡_ {A = ℕ} 0 1 = cc (rw (q, judgedAfter) at (meets .answers)) in absurd (omega arith)

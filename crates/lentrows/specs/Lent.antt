@@ -29,7 +29,7 @@ toldOf j = record { answer = j .answer; bounds = inArray (j .bounds); shown = le
 -- how many rows of so many have a bound where this is the answer
 unfoldable pub shownBy : Answer → (count : ℕ) → ℕ
 shownBy Shown count = count
-shownBy (NotShown place) count = place - 1
+shownBy (NotShown number place) count = place - 1
 shownBy (Refused fault) count = 0
 
 -- The first n entries hold these bounds, and every later one is as it was.
@@ -49,11 +49,11 @@ RefusedWritesNothing =
     → LentAnalysis (judgedOver M rows before) before after (Refused fault)
     → after ≡ before
 
--- Number 8 leaves the bounds of the rows before the place in the first entries and every later entry untouched.
+-- A row not shown leaves the bounds of the rows before the place in the first entries and every later entry untouched.
 abbrev pub NotShownLeaves : Type 0
 NotShownLeaves =
-    (M : ℕ) (rows : List Row) (before after : List ℕ) (place : ℕ)
-    → LentAnalysis (judgedOver M rows before) before after (NotShown place)
+    (M : ℕ) (rows : List Row) (before after : List ℕ) (number place : ℕ)
+    → LentAnalysis (judgedOver M rows before) before after (NotShown number place)
     → Filled (place - 1) (judgedOver M rows before .bounds) before after
 
 -- Success fills one entry per row and touches no other.

@@ -54,7 +54,7 @@ fn shown_by(answer: Answer, count: usize) -> usize
 {
     match answer {
         Answer::Shown => count,
-        Answer::NotShown(place) => {
+        Answer::NotShown(_, place) => {
             if place == 0 {
                 return 0;
             }

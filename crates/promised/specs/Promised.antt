@@ -264,7 +264,7 @@ pub record JudgedForC (cores : ℕ) (rows : List Row) (before after : List ℕ) 
   pub answer : Answer
   pub right : LentJudgement cores rows before after answer
   pub all-shown : answer ≡ Shown → code ≡ 0
-  pub not-shown : (place : ℕ) → answer ≡ NotShown place → code ≡ 8 * 4294967296 + place
+  pub not-shown : (place : ℕ) → answer ≡ NotShown 8 place → code ≡ 8 * 4294967296 + place
 
 -- `dipperslate_analyse`: the number times 2 to the 32nd plus the place, and what the lent list is left with.
 pub record AnswerForC (cores : ℕ) (rows : List Row) (before after : List ℕ) (code : ℕ) : Type 0 where

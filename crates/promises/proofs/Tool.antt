@@ -181,7 +181,7 @@ module _ (s : Sheet) (table : rowsOf (tableOf s) ≡ rowsIn (entriesOf s)) where
       let within : n < length (entriesOf s) = omega (arith, first .stands, as-many) in
       let label : labelAt s (suc n - 1) ≡ getD (entriesOf s) n noEntry .label =
       ap (labelAt s) {x = suc n - 1} {y = n} (omega arith) ∙ ap (λ (entry : Entry). entry .label) (in-entries s n within) in
-      not-shown n (j .bounds) range (told (NotShown (suc n)) (first .says) right)
+      not-shown n (j .bounds) range (told (NotShown 8 (suc n)) (first .says) right)
       (text-judged
       ∙ rw (first .says, judgedText, bound-texts s rows (j .bounds) (omega arith), as-many, label, not-shown-text) refl)
 
@@ -254,7 +254,7 @@ module _ (cores tick : ℕ) (entries : List Entry) where
   one-text a b (not-shown m xs range p e) (not-shown n ys range′ q f) =
       let same = one-judgement-by-rules cores (rowsIn entries) _ _ p q in
       let bounds : xs ≡ ys = ap (λ (j : Judged). j .bounds) same in
-      let answers : NotShown (suc m) ≡ NotShown (suc n) = ap (λ (j : Judged). j .answer) same in
+      let answers : NotShown 8 (suc m) ≡ NotShown 8 (suc n) = ap (λ (j : Judged). j .answer) same in
       let places : suc m ≡ suc n = cc in
       let place : m ≡ n = omega arith in
       e ∙ rw (bounds, place) (sym f)

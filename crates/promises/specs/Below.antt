@@ -19,10 +19,11 @@ use Rattle.bench.specs.Step.{opened}
 use Rattle.bench.specs.History.{Call, releases, ticks, doCall, after}
 use Rattle.promises.specs.Lists.{ListInRange}
 
--- The same answer for places 1 to k: the same bounds, and the same place named, if one of these is.
+-- The same answer for places 1 to k: the same bounds, and the same number and place, if one of these is named.
 pub record SameAnswer (k : ℕ) (a b : Judged) : Type 0 where
   pub bounds : take k (a .bounds) ≡ take k (b .bounds)
-  pub named : (place : ℕ) → place ≤ k → (a .answer ≡ NotShown place) ↔ (b .answer ≡ NotShown place)
+  pub named : (number place : ℕ) → place ≤ k
+      → (a .answer ≡ NotShown number place) ↔ (b .answer ≡ NotShown number place)
 
 -- Among tables that pass the checks with equal M, two that agree down to place k give the same answer for
 -- places 1 to k, under any rows below.

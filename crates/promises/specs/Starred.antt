@@ -22,7 +22,7 @@ abbrev pub shown : List ℕ → Judged
 shown bounds = record { answer = Shown; bounds = bounds }
 
 abbrev pub notShown : (place : ℕ) → List ℕ → Judged
-notShown place bounds = record { answer = NotShown place; bounds = bounds }
+notShown place bounds = record { answer = NotShown 8 place; bounds = bounds }
 
 -- Without carry-in, C 2, T 5. With carry-in, C 2, T 6, R 3.
 abbrev pub windowClaims : List (Type 0)
@@ -37,7 +37,7 @@ listClaims =
     (judged 2 (rowOf 2 5 5 ∷ rowOf 3 8 8 ∷ rowOf 2 4 10 ∷ []) ≡ shown (2 ∷ 3 ∷ 4 ∷ []))
     ∷ (judged 2 (rowOf 2 5 5 ∷ rowOf 3 8 8 ∷ rowOf 2 4 10 ∷ rowOf 3 20 20 ∷ []) ≡ shown (2 ∷ 3 ∷ 4 ∷ 7 ∷ []))
     ∷ (judged 2 (rowOf 2 5 5 ∷ rowOf 3 8 8 ∷ rowOf 2 3 10 ∷ []) ≡ notShown 3 (2 ∷ 3 ∷ []))
-    ∷ (paperOf (NotShown 3) ≡ paper 8 3)
+    ∷ (paperOf (NotShown 8 3) ≡ paper 8 3)
     ∷ (written (judgedInto 2 4 (rowOf 2 5 5 ∷ rowOf 3 8 8 ∷ rowOf 2 3 10 ∷ [])) (90 ∷ 91 ∷ 92 ∷ 93 ∷ [])
     ≡ 2 ∷ 3 ∷ 92 ∷ 93 ∷ [])
     ∷ (judged 1 (rowOf 1 4 4 ∷ rowOf 2 6 6 ∷ rowOf 5 12 12 ∷ []) ≡ shown (1 ∷ 3 ∷ 12 ∷ []))

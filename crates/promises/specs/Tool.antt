@@ -76,7 +76,7 @@ pub data TextOf (cores tick : ℕ) (entries : List Entry) (text : List ℕ) : Ty
       → text ≡ firstText cores tick (length entries) ++ rowTexts entries bounds (length entries) ++ ascii "all shown\n"
       → TextOf cores tick entries text
   not-shown : (before : ℕ) (bounds : List ℕ) → ListInRange cores (rowsIn entries)
-      → JudgedBy cores (rowsIn entries) (record { answer = NotShown (suc before); bounds = bounds })
+      → JudgedBy cores (rowsIn entries) (record { answer = NotShown 8 (suc before); bounds = bounds })
       → text
       ≡ firstText cores tick (length entries) ++ rowTexts entries bounds before
       ++ notShownText (suc before) (getD entries before blankEntry .label)

@@ -83,7 +83,7 @@ pub record EveryRowShown (rows : List Row) (j : Judged) : Type 0 where
 -- The first row not shown, number 8: it stands below those with bounds, the answer names its place, and no
 -- window passes for it.
 pub record FirstRowNotShown (M : ℕ) (rows : List Row) (j : Judged) : Type 0 where
-  pub says : j .answer ≡ NotShown (suc (length (j .bounds)))
+  pub says : j .answer ≡ NotShown 8 (suc (length (j .bounds)))
   pub on-paper : paperOf (j .answer) ≡ paper 8 (suc (length (j .bounds)))
   pub stands : length (j .bounds) < length rows
   pub none : NoWindow M rows (j .bounds) (length (j .bounds))

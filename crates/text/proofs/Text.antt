@@ -16,7 +16,7 @@ use Rattle.quantities.proofs.Sound.{sound-list-means}
 use Rattle.quantities.proofs.Rows.{length-rows}
 use Rattle.quantities.specs.Paper.{faultPaper}
 use Rattle.quantities.specs.Lengths.{numbers}
-use Rattle.windows.specs.Answer.{Judged, judged}
+use Rattle.windows.specs.Answer.{Judged, lateNumber, judged}
 use Rattle.windows.specs.Judgement.{AllShown, FirstNotShown}
 use Rattle.windows.specs.declared.Answer.{Answer}
 use Rattle.windows.specs.declared.Answer.the-variants.{Shown, NotShown, Refused}
@@ -54,14 +54,14 @@ module _ (M : ℕ) (rows : List Row) where
       (judged-means M rows sound .ends)
 
   -- a row not shown: the one behind those with bounds
-  pub not-shown-counts : (place : ℕ) → judged M rows .answer ≡ NotShown place
+  pub not-shown-counts : (number place : ℕ) → judged M rows .answer ≡ NotShown number place
       → (place ≡ suc (length (judged M rows .bounds))) × (length (judged M rows .bounds) < rowCapacity)
-  not-shown-counts place e =
+  not-shown-counts number place e =
       let sound = answered (λ fault q. let z : _≡_ {A = ℕ} 0 1 = cc in omega arith) in
       ⊎-elim
       (λ (all : AllShown rows (judged M rows)). let z : _≡_ {A = ℕ} 0 1 = cc (all .says) in absurd (omega arith))
       (λ (none : FirstNotShown M rows (judged M rows)).
-      let same : NotShown place ≡ NotShown (suc (length (judged M rows .bounds))) = sym e ∙ none .says in
+      let same : NotShown number place ≡ NotShown lateNumber (suc (length (judged M rows .bounds))) = sym e ∙ none .says in
       (cc, omega (arith, none .stands, sound .few-rows)))
       (judged-means M rows sound .ends)
 
@@ -101,18 +101,19 @@ module _ (sheet : Sheet) (table : Table) (analysis : Analysis) (a : Analysed she
       let same : length (found .bounds) ≡ table .count = shown-counts (sheet .cores) (rowsOf table) (answer-is ∙ e) .0 ∙ length-rows table in
       text-is Shown e ∙ rw (lines-are, same) refl
 
-  pub place-not-shown : (place : ℕ) → analysis .answer ≡ NotShown place → (0 < place) × (place ≤ rowCapacity)
-  place-not-shown place e =
-      let counts = not-shown-counts (sheet .cores) (rowsOf table) place (answer-is ∙ e) in
+  pub place-not-shown : (number place : ℕ) → analysis .answer ≡ NotShown number place
+      → (0 < place) × (place ≤ rowCapacity)
+  place-not-shown number place e =
+      let counts = not-shown-counts (sheet .cores) (rowsOf table) number place (answer-is ∙ e) in
       (omega (arith, counts .0), omega (arith, counts .0, counts .1))
 
-  pub text-not-shown : (place : ℕ) → analysis .answer ≡ NotShown place
+  pub text-not-shown : (number place : ℕ) → analysis .answer ≡ NotShown number place
       → sheetText sheet ≡ linesBefore sheet table analysis (place - 1) ++ notShownLine place (labelAt sheet (place - 1))
   unfolding judgedText
-  text-not-shown place e =
+  text-not-shown number place e =
       let same : length (found .bounds) ≡ place - 1 =
-      omega (arith, not-shown-counts (sheet .cores) (rowsOf table) place (answer-is ∙ e) .0) in
-      text-is (NotShown place) e ∙ rw (lines-are, same) refl
+      omega (arith, not-shown-counts (sheet .cores) (rowsOf table) number place (answer-is ∙ e) .0) in
+      text-is (NotShown number place) e ∙ rw (lines-are, same) refl
 
   pub text-refused : (fault : Fault) → analysis .answer ≡ Refused fault → sheetText sheet ≡ paperLine (faultPaper fault)
   unfolding judgedText
@@ -144,7 +145,7 @@ judged-some sheet rows j = go (j .answer) refl
   where
     go : (answer : Answer) → j .answer ≡ answer → 0 < length (judgedText sheet rows j)
     go Shown e = rw (e, judgedText, length-append) (omega arith)
-    go (NotShown place) e = rw (e, judgedText) (simp length-append (omega arith))
+    go (NotShown number place) e = rw (e, judgedText) (simp length-append (omega arith))
     go (Refused fault) e = rw (e, judgedText) (refused-some (faultPaper fault .number) (faultPaper fault .place))
 
 pub text-some : (bytes : List ℕ) → 0 < length (textOf bytes)

@@ -35,7 +35,7 @@ unfoldable pub judgedText : Sheet → List Row → Judged → List ℕ
 judgedText sheet rows j =
     elim (j .answer) [
       | Shown ↦ boundLines sheet rows (j .bounds) ++ shownLine
-      | NotShown place ↦ boundLines sheet rows (j .bounds) ++ notShownLine place (labelAt sheet (place - 1))
+      | NotShown number place ↦ boundLines sheet rows (j .bounds) ++ notShownLine place (labelAt sheet (place - 1))
       | Refused fault ↦ paperLine (faultPaper fault)
     ]
 

@@ -68,7 +68,7 @@ fn put_sheet(out: &mut [u8], sheet: Sheet) -> usize
             let next = put_bound_lines(out, sheet, rows, bounds, rows);
             put_shown_line(out, next)
         }
-        Answer::NotShown(place) => {
+        Answer::NotShown(_, place) => {
             let before = place - 1;
             let next = put_bound_lines(out, sheet, rows, bounds, before);
             let entry = sheet.entries[before];

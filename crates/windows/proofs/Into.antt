@@ -16,7 +16,7 @@ use Rattle.quantities.proofs.Checks.{lent-fault-list, lent-fault-short, lent-fa
 use Rattle.windows.specs.declared.Answer.{Answer}
 use Rattle.windows.specs.declared.Answer.the-variants.{Shown, NotShown, Refused}
 use Rattle.windows.specs.Bound.{boundsBelow}
-use Rattle.windows.specs.Answer.{verdict, judgedAfter, judged, judgedInto}
+use Rattle.windows.specs.Answer.{lateNumber, verdict, judgedAfter, judged, judgedInto}
 use Rattle.windows.specs.Judgement.{AllShown, FirstNotShown}
 use Rattle.windows.proofs.Judgement.{judged-means}
 
@@ -51,7 +51,7 @@ refused-fault none M rows fault e = absurd (searched (eqb (length (boundsBelow M
   where
     searched : (all : Bool)
         → _≡_ {A = Answer}
-        (elim all [ true ↦ Shown | false ↦ NotShown (suc (length (boundsBelow M [] rows))) ])
+        (elim all [ true ↦ Shown | false ↦ NotShown lateNumber (suc (length (boundsBelow M [] rows))) ])
         (Refused fault)
         → ⊥
     searched true e = let z : _≡_ {A = ℕ} 0 1 = cc in omega arith

@@ -15,7 +15,7 @@ use Rattle.quantities.proofs.Sound.{sound-list-means}
 use Rattle.windows.specs.declared.Answer.the-variants.{Shown, NotShown, Refused}
 use Rattle.windows.specs.Choice.{Bounded, bounded}
 use Rattle.windows.specs.Bound.{boundOf, IsBound, NoBound, boundsBelow}
-use Rattle.windows.specs.Answer.{Judged, verdict, judgedAfter, judged, paperOf}
+use Rattle.windows.specs.Answer.{Judged, lateNumber, verdict, judgedAfter, judged, paperOf}
 use Rattle.windows.specs.Judgement.{rowOfIndex, aboveIndex, AllShown, FirstNotShown, Judgement}
 use Rattle.windows.proofs.Least.{least-unique}
 use Rattle.windows.proofs.Bound.{window-some, window-none}
@@ -134,7 +134,7 @@ unfolding verdict
 verdict-all count bounds e = rw (eq-eqb (length bounds) count e, verdict) refl
 
 pub verdict-short : (count : ℕ) (bounds : List ℕ) → (length bounds ≡ count → ⊥)
-    → verdict count bounds ≡ record { answer = NotShown (suc (length bounds)); bounds = bounds }
+    → verdict count bounds ≡ record { answer = NotShown lateNumber (suc (length bounds)); bounds = bounds }
 unfolding verdict
 verdict-short count bounds e = rw (ne-eqb (length bounds) count e, verdict) refl
 
@@ -200,4 +200,4 @@ one-judgement M rows j k p q = same-judged (answers (p .ends) (q .ends)) bounds
     answers (inl a) (inl b) = a .says ∙ sym (b .says)
     answers (inl a) (inr b) = absurd (omega (arith, ap length bounds, a .each, b .stands))
     answers (inr a) (inl b) = absurd (omega (arith, ap length bounds, a .stands, b .each))
-    answers (inr a) (inr b) = a .says ∙ ap (λ bs. NotShown (suc (length bs))) bounds ∙ sym (b .says)
+    answers (inr a) (inr b) = a .says ∙ ap (λ bs. NotShown lateNumber (suc (length bs))) bounds ∙ sym (b .says)

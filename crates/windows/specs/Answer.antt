@@ -18,11 +18,15 @@ pub record Judged : Type 0 where
   pub answer : Answer
   pub bounds : List ℕ
 
+-- the number of a row for which no window from its cost to its deadline passes
+abbrev pub lateNumber : ℕ
+lateNumber = 8
+
 -- the answer to so many rows when these are the bounds up to the first row that has none
 unfoldable pub verdict : ℕ → List ℕ → Judged
 verdict count bounds =
     record {
-      answer = elim (eqb (length bounds) count) [ true ↦ Shown | false ↦ NotShown (suc (length bounds)) ];
+      answer = elim (eqb (length bounds) count) [ true ↦ Shown | false ↦ NotShown lateNumber (suc (length bounds)) ];
       bounds = bounds;
     }
 
@@ -43,8 +47,8 @@ judgedInto M entries rows = judgedAfter (lentFault M entries rows) M rows
 unfoldable pub written : Judged → List ℕ → List ℕ
 written j entries = j .bounds ++ drop (length (j .bounds)) entries
 
--- an answer on paper: 8 at the place of the first row not shown
+-- an answer on paper: the first row not shown stands there by its number and place
 unfoldable pub paperOf : Answer → Paper
 paperOf Shown = noRefusal
-paperOf (NotShown place) = paper 8 place
+paperOf (NotShown number place) = paper number place
 paperOf (Refused fault) = faultPaper fault

@@ -10,7 +10,7 @@ use Rattle.quantities.specs.declared.Row.{Row}
 use Rattle.windows.specs.declared.Answer.the-variants.{Shown, NotShown}
 use Rattle.windows.specs.Choice.{Bounded, bounded}
 use Rattle.windows.specs.Bound.{IsBound, NoBound}
-use Rattle.windows.specs.Answer.{Judged, paperOf}
+use Rattle.windows.specs.Answer.{Judged, lateNumber, paperOf}
 
 -- the row with index k, counted from 0: it stands at place k + 1
 abbrev pub rowOfIndex : List Row → ℕ → Row
@@ -26,10 +26,10 @@ pub record AllShown (rows : List Row) (j : Judged) : Type 0 where
   pub says : j .answer ≡ Shown
   pub each : length (j .bounds) ≡ length rows
 
--- The row below those with bounds is named by 8 at its place, and no window passes for it.
+-- The row below those with bounds is named by its number and place, and no window passes for it.
 pub record FirstNotShown (M : ℕ) (rows : List Row) (j : Judged) : Type 0 where
-  pub says : j .answer ≡ NotShown (suc (length (j .bounds)))
-  pub on-paper : paperOf (j .answer) ≡ paper 8 (suc (length (j .bounds)))
+  pub says : j .answer ≡ NotShown lateNumber (suc (length (j .bounds)))
+  pub on-paper : paperOf (j .answer) ≡ paper lateNumber (suc (length (j .bounds)))
   pub stands : length (j .bounds) < length rows
   pub none : NoBound M (aboveIndex rows (j .bounds) (length (j .bounds)))
       (rowOfIndex rows (length (j .bounds)))
@@ -41,7 +41,9 @@ pub record Judgement (M : ℕ) (rows : List Row) (j : Judged) : Type 0 where
       → IsBound M (aboveIndex rows (j .bounds) k) (rowOfIndex rows k) (getD (j .bounds) k 0)
   pub ends : AllShown rows j ⊎ FirstNotShown M rows j
 
--- Two answers are the same for places 1 to k: the same bounds, and the same place named, if one of these is.
+-- Two answers are the same for places 1 to k: the same bounds, and the same row named by the same
+-- number, if one of these is.
 pub record SameDownTo (k : ℕ) (a b : Judged) : Type 0 where
   pub bounds : take k (a .bounds) ≡ take k (b .bounds)
-  pub named : (place : ℕ) → place ≤ k → (a .answer ≡ NotShown place) ↔ (b .answer ≡ NotShown place)
+  pub named : (number place : ℕ) → place ≤ k
+      → (a .answer ≡ NotShown number place) ↔ (b .answer ≡ NotShown number place)

@@ -18,7 +18,7 @@ abbrev shown : List ℕ → Judged
 shown bounds = record { answer = Shown; bounds = bounds }
 
 abbrev not-shown : ℕ → List ℕ → Judged
-not-shown place bounds = record { answer = NotShown place; bounds = bounds }
+not-shown place bounds = record { answer = NotShown 8 place; bounds = bounds }
 
 abbrev whole-list : ℕ → Judged
 whole-list number = record { answer = Refused (WholeList number); bounds = [] }

@@ -4,10 +4,10 @@ ghost use Rattle.windows.specs.Window.{interference};
 use quantities::Fault;
 use quantities::Ticks;
 
-// The answer to a row list: every row has its bound, the row at a place has none, or the list has a fault.
+// The answer to a row list: every row has its bound, a row has none, by its number and place, or the list has a fault.
 pub enum Answer {
     Shown,
-    NotShown(usize),
+    NotShown(u32, usize),
     Refused(Fault),
 }
 

@@ -6,6 +6,7 @@ use mathlib.Core.Path.{sym, ap, _∙_}
 use mathlib.Core.List.{List}
 use lib.ListN.{length}
 use Rattle.quantities.specs.declared.Ticks.{Ticks}
+use Rattle.windows.specs.Answer.{lateNumber}
 use Rattle.windows.specs.declared.Answer.the-variants.{NotShown}
 use Rattle.analysis.specs.declared.Analysis.{Analysis}
 use Rattle.quantities.specs.Table.{rowsOf}
@@ -18,7 +19,7 @@ use Rattle.analysis.proofs.bounds_of.Tie as tie
 
 -- the answer that names a place
 abbrev named : ℕ → List Ticks → Analysis
-named place bounds = record { answer = NotShown place; bounds = bounds }
+named place bounds = record { answer = NotShown lateNumber place; bounds = bounds }
 
 abbrev Inv-loop : tie.InvT-loop
 Inv-loop cores table bounds₀ i₀ bounds i = SoFar cores table bounds i

@@ -14,9 +14,9 @@ use Rattle.exports.proofs.code_of.Tie as tie
 
 -- the place of each case fits where the answer's does
 module _ (answer : Answer) (fits : FitsCode answer) where
-  not-shown-fits : (place : ℕ) → answer ≡ NotShown place → place < placeLimit
+  not-shown-fits : (number place : ℕ) → answer ≡ NotShown number place → place < placeLimit
   unfolding paperOf faultPaper
-  not-shown-fits place e = rw e at fits
+  not-shown-fits number place e = rw e at fits
 
   one-row-fits : (number place : ℕ) → answer ≡ Refused (OneRow number place) → place < placeLimit
   unfolding paperOf faultPaper
@@ -28,9 +28,10 @@ module _ (answer : Answer) (r : ℕ) where
   unfolding paperOf faultPaper
   shown-code e is = rw e is
 
-  not-shown-code : (place : ℕ) → answer ≡ NotShown place → r ≡ coded 8 place → r ≡ codeOf (paperOf answer)
+  not-shown-code : (number place : ℕ) → answer ≡ NotShown number place → r ≡ coded number place
+      → r ≡ codeOf (paperOf answer)
   unfolding paperOf faultPaper
-  not-shown-code place e is = rw e is
+  not-shown-code number place e is = rw e is
 
   whole-list-code : (number : ℕ) → answer ≡ Refused (WholeList number) → r ≡ coded number 0 → r ≡ codeOf (paperOf answer)
   unfolding paperOf faultPaper
@@ -48,7 +49,7 @@ enum-known-answer : tie.Need-enum-known-answer
 enum-known-answer c = search needs
 
 code-requires : tie.Need-code-requires
-code-requires c κs = not-shown-fits _ (c .before .before .before .pre) _ (c .before .answer .given .1)
+code-requires c κs = not-shown-fits _ (c .before .before .before .pre) _ _ (c .before .answer .given .1)
 
 enum-known-answer-2 : tie.Need-enum-known-answer-2
 enum-known-answer-2 c = search needs
@@ -72,7 +73,7 @@ returns : tie.Need-returns
 returns c = shown-code _ 0 (c .enum-told .given .1) refl
 
 returns-2 : tie.Need-returns-2
-returns-2 c = not-shown-code _ _ _ (c .before .before .answer .given .1) (c .code .ensures)
+returns-2 c = not-shown-code _ _ _ _ (c .before .before .answer .given .1) (c .code .ensures)
 
 returns-3 : tie.Need-returns-3
 returns-3 c =
