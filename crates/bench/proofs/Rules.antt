@@ -13,7 +13,7 @@ use Rattle.quantities.specs.Limits.{rowCapacity}
 use Rattle.quantities.specs.Row.{cost, gap}
 use Rattle.quantities.specs.Table.{rowsOf}
 use Rattle.quantities.specs.Checks.{Check, firstFailing, listChecks, listFault, checkedOf}
-use Rattle.quantities.specs.Paper.{paper, paperOf as checkedPaper, FirstOf}
+use Rattle.quantities.specs.Paper.{paper, checkedPaper, FirstOf}
 use Rattle.quantities.proofs.Rows.{length-rows}
 use Rattle.quantities.proofs.Sound.{none-fails, first-failing, first-found, sound-list-means}
 use Rattle.quantities.proofs.Paper.{turned-away}

@@ -11,7 +11,7 @@ use Rattle.quantities.specs.Limits.{rowCapacity}
 use Rattle.quantities.specs.Row.{cost, gap}
 use Rattle.quantities.specs.Table.{rowsOf}
 use Rattle.quantities.specs.Checks.{Check, check, FirstFailing, listChecks, SoundList}
-use Rattle.quantities.specs.Paper.{paper, paperOf as checkedPaper, FirstOf}
+use Rattle.quantities.specs.Paper.{paper, checkedPaper, FirstOf}
 use Rattle.quantities.specs.declared.Instant.{Instant}
 use Rattle.quantities.specs.declared.Table.{Table}
 use Rattle.quantities.specs.declared.Checked.the-variants.{Sound}

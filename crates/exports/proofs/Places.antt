@@ -20,7 +20,7 @@ use Rattle.quantities.specs.declared.Fault.the-variants.{WholeList, OneRow}
 use Rattle.windows.specs.Bound.{boundsBelow, boundOf}
 use Rattle.windows.specs.Choice.{Bounded, bounded}
 use Rattle.quantities.specs.Paper.{faultPaper}
-use Rattle.windows.specs.Answer.{verdict, judgedAfter, judgedInto, paperOf}
+use Rattle.windows.specs.Answer.{verdict, judgedAfter, judgedInto, answerPaper}
 use Rattle.windows.specs.declared.Answer.the-variants.{Refused}
 use Rattle.windows.proofs.Judgement.{verdict-all, verdict-short}
 use Rattle.windows.specs.Judgement.{rowOfIndex}
@@ -39,12 +39,13 @@ rows-places n place (row ∷ rows) h =
 
 -- the fault of such checks has such a place
 fault-place : (n : ℕ) (checks : List Check) (fault : Fault) → PlacesTo n checks
-    → faultFrom (firstFailing checks) ≡ some fault → paperOf (Refused fault) .place ≤ n
-unfolding firstFailing faultFrom paperOf faultPaper
+    → faultFrom (firstFailing checks) ≡ some fault → answerPaper (Refused fault) .place ≤ n
+unfolding firstFailing faultFrom answerPaper faultPaper
 fault-place n [] fault all e = let z : _≡_ {A = ℕ} 0 1 = cc in absurd (omega arith)
 fault-place n (one ∷ checks) fault all e = go (one .fails) refl (fault-place n checks fault (all .1))
   where
-    failed : (place : ℕ) → one .place ≡ place → faultFrom (some one) ≡ some fault → paperOf (Refused fault) .place ≤ n
+    failed : (place : ℕ) → one .place ≡ place → faultFrom (some one) ≡ some fault
+        → answerPaper (Refused fault) .place ≤ n
     failed zero q f =
         let whole : some (WholeList (one .number)) ≡ some fault = rw (q, faultFrom) at f in
         let is : fault ≡ WholeList (one .number) = cc in
@@ -54,8 +55,9 @@ fault-place n (one ∷ checks) fault all e = go (one .fails) refl (fault-place n
         let is : fault ≡ OneRow (one .number) (suc place) = cc in
         rw is (omega (arith, all .0))
 
-    go : (t : Bool) → one .fails ≡ t → (faultFrom (firstFailing checks) ≡ some fault → paperOf (Refused fault) .place ≤ n)
-        → paperOf (Refused fault) .place ≤ n
+    go : (t : Bool) → one .fails ≡ t
+        → (faultFrom (firstFailing checks) ≡ some fault → answerPaper (Refused fault) .place ≤ n)
+        → answerPaper (Refused fault) .place ≤ n
     go true q later = failed (one .place) refl (rw (q, firstFailing) at e)
     go false q later = later (rw (q, firstFailing) at e)
 
@@ -78,8 +80,8 @@ bounds-few M above (row ∷ rows) = go (boundOf M above row) (λ b. bounds-few M
     go none below = omega arith
     go (some b) below = omega (arith, below b)
 
-verdict-place : (count : ℕ) (bounds : List ℕ) → paperOf (verdict count bounds .answer) .place ≤ suc (length bounds)
-unfolding paperOf faultPaper
+verdict-place : (count : ℕ) (bounds : List ℕ) → answerPaper (verdict count bounds .answer) .place ≤ suc (length bounds)
+unfolding answerPaper faultPaper
 verdict-place count bounds =
     elim (decEq (length bounds) count) [
       | yes e ↦ rw (verdict-all count bounds e) (omega arith)
@@ -88,12 +90,12 @@ verdict-place count bounds =
 
 -- The place of an answer is at most one past the rows.
 pub into-place : (cores entries : ℕ) (rows : List Row)
-    → paperOf (judgedInto cores entries rows .answer) .place ≤ suc (length rows)
+    → answerPaper (judgedInto cores entries rows .answer) .place ≤ suc (length rows)
 unfolding judgedInto judgedAfter lentFault
 into-place cores entries rows = go (lentFault cores entries rows) refl
   where
     go : (found : Option Fault) → lentFault cores entries rows ≡ found
-        → paperOf (judgedAfter found cores rows .answer) .place ≤ suc (length rows)
+        → answerPaper (judgedAfter found cores rows .answer) .place ≤ suc (length rows)
     go (some fault) e =
         fault-place (suc (length rows)) (listChecks cores rows ++ roomChecks entries rows) fault
         (lent-places (suc (length rows)) cores entries rows (omega arith)) e

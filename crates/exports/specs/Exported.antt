@@ -6,7 +6,7 @@ use lib.ListN.{getD}
 use Rattle.quantities.specs.Row.{rowOf}
 use Rattle.quantities.specs.declared.Row.{Row}
 use Rattle.quantities.specs.Paper.{Paper}
-use Rattle.windows.specs.Answer.{Judged, paperOf, written}
+use Rattle.windows.specs.Answer.{Judged, answerPaper, boundsAfter}
 use Rattle.windows.specs.declared.Answer.{Answer}
 
 -- the row of a triple C, D, T, and the rows of a list of triples
@@ -29,9 +29,9 @@ codeOf paper = coded (paper .number) (paper .place)
 
 -- An answer whose number and place can be read off its code.
 abbrev pub FitsCode : Answer → Type 0
-FitsCode answer = paperOf answer .place < placeLimit
+FitsCode answer = answerPaper answer .place < placeLimit
 
 -- The answer is the code of what is judged, and the list is left with the bounds that come with it.
 pub record Exported (judged : Judged) (before after : List ℕ) (answer : ℕ) : Type 0 where
-  pub answers : answer ≡ codeOf (paperOf (judged .answer))
-  pub leaves : after ≡ written judged before
+  pub answers : answer ≡ codeOf (answerPaper (judged .answer))
+  pub leaves : after ≡ boundsAfter judged before

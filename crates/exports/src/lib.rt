@@ -2,7 +2,7 @@
 ghost use mathlib.Core.Path.{_≡_};
 ghost use Prim.Native.Nat.{_≤_, _<_};
 ghost use lib.ListN.{length};
-ghost use Rattle.windows.specs.Answer.{judgedInto, paperOf};
+ghost use Rattle.windows.specs.Answer.{judgedInto, answerPaper};
 ghost use Rattle.quantities.specs.Limits.{rowCapacity};
 ghost use Rattle.quantities.specs.Lengths.{numbers};
 ghost use Rattle.lentrows.specs.Loaded.{tableOf};
@@ -55,7 +55,7 @@ fn code(number: u32, place: usize) -> u64
 // Number and place of an answer as one number; 0 where every row is shown.
 fn code_of(answer: Answer) -> u64
     requires { ⌜ FitsCode answer ⌝ }
-    ensures { λ r. ⌜ r ≡ codeOf (paperOf answer) ⌝ }
+    ensures { λ r. ⌜ r ≡ codeOf (answerPaper answer) ⌝ }
 {
     match answer {
         Answer::Shown => 0,

@@ -18,7 +18,7 @@ use Rattle.quantities.specs.declared.Fault.{Fault}
 use Rattle.quantities.specs.declared.Ticks.{Ticks}
 use Rattle.quantities.proofs.Sound.{sound-list-means}
 use Rattle.windows.specs.declared.Answer.the-variants.{Shown, NotShown, Refused}
-use Rattle.windows.specs.Answer.{Judged, verdict, judgedAfter, judgedInto, written}
+use Rattle.windows.specs.Answer.{Judged, verdict, judgedAfter, judgedInto, boundsAfter}
 use Rattle.windows.specs.Bound.{boundsBelow}
 use Rattle.windows.proofs.Into.{into-faulty, into-short, into-room, few-bounds}
 use Rattle.lentrows.specs.Lent.{LentAnalysis, Filled, judgedOver}
@@ -64,8 +64,9 @@ verdict-not-refused count bounds fault = go (eqb (length bounds) count) refl
     go true q e = let z : _≡_ {A = ℕ} 0 1 = cc (rw (q, verdict) at e) in omega arith
     go false q e = let z : _≡_ {A = ℕ} 0 1 = cc (rw (q, verdict) at e) in omega arith
 
-filled : (n : ℕ) (j : Judged) (before after : List ℕ) → length (j .bounds) ≡ n → after ≡ written j before → Filled n (j .bounds) before after
-unfolding written
+filled : (n : ℕ) (j : Judged) (before after : List ℕ) → length (j .bounds) ≡ n → after ≡ boundsAfter j before
+    → Filled n (j .bounds) before after
+unfolding boundsAfter
 filled n j before after many e =
     record {
       many = many;
@@ -74,7 +75,7 @@ filled n j before after many e =
     }
 
 pub refused-writes-nothing : RefusedWritesNothing
-unfolding judgedInto judgedAfter written
+unfolding judgedInto judgedAfter boundsAfter
 refused-writes-nothing M rows before after fault = go (lentFault M (length before) rows) refl
   where
     go : (found : Option Fault) → lentFault M (length before) rows ≡ found
@@ -106,7 +107,8 @@ not-shown-leaves M rows before after number place = go (lentFault M (length befo
         → Filled (place - 1) (judgedOver M rows before .bounds) before after
     go none q meets =
         let one-less =
-        verdict-not-shown (length rows) number place (boundsBelow M [] rows) (sym (rw (q, judgedAfter) at (meets .answers))) in
+        verdict-not-shown (length rows) number place (boundsBelow M [] rows)
+        (sym (rw (q, judgedAfter) at (meets .answers))) in
         filled (place - 1) (judgedOver M rows before) before after (rw (q, judgedAfter) (omega (arith, one-less)))
         (meets .leaves)
     go (some f) q meets = let z : _≡_ {A = ℕ} 0 1 = cc (rw (q, judgedAfter) at (meets .answers)) in absurd (omega arith)
@@ -129,7 +131,7 @@ bounds-fit M entries rows = go (listFault M rows) refl
         ]
 
 pub length-kept : LengthKept
-unfolding written
+unfolding boundsAfter
 length-kept M rows before after answer meets =
     let bounds = judgedOver M rows before .bounds in
     rw (meets .leaves)

@@ -10,7 +10,7 @@ use Rattle.quantities.specs.Limits.{rowCapacity}
 use Rattle.quantities.specs.Lengths.{numbers}
 use Rattle.quantities.specs.declared.Row.{Row}
 use Rattle.quantities.specs.declared.Ticks.{Ticks}
-use Rattle.windows.specs.Answer.{Judged, judgedInto, written}
+use Rattle.windows.specs.Answer.{Judged, judgedInto, boundsAfter}
 use Rattle.lentrows.specs.Lent.{LentAnalysis, firstOf, toldOf}
 use Rattle.lentrows.specs.declared.Told.{Told}
 use Rattle.lentrows.proofs.Counted.{found-are}
@@ -51,8 +51,8 @@ told-fits M entries rows told e = rw e (bounds-fit M entries rows)
 
 -- the bounds of what is judged, as numbers in the first entries, are what is to be written
 pub told-written : (j : Judged) (told : Told) → told ≡ toldOf j → (before : List ℕ)
-    → firstOf (told .shown) (numbers (told .bounds)) before ≡ written j before
-unfolding toldOf written
+    → firstOf (told .shown) (numbers (told .bounds)) before ≡ boundsAfter j before
+unfolding toldOf boundsAfter
 told-written j told e before = rw (e, found-are (j .bounds)) refl
 
 -- what is told is the answer, and a list with the bounds told in its first entries is left as it says

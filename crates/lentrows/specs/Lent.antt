@@ -6,7 +6,7 @@ use lib.ListN.{length, drop, take}
 use Rattle.quantities.specs.declared.Fault.{Fault}
 use Rattle.quantities.specs.declared.Row.{Row}
 use Rattle.quantities.specs.declared.Ticks.{Ticks}
-use Rattle.windows.specs.Answer.{Judged, judgedInto, written}
+use Rattle.windows.specs.Answer.{Judged, judgedInto, boundsAfter}
 use Rattle.windows.specs.declared.Answer.{Answer}
 use Rattle.windows.specs.declared.Answer.the-variants.{Shown, NotShown, Refused}
 use Rattle.quantities.specs.Lengths.{numbers, inArray}
@@ -16,7 +16,7 @@ use Rattle.lentrows.specs.declared.Told.{Told}
 -- first entries.
 pub record LentAnalysis (judged : Judged) (before after : List ℕ) (answer : Answer) : Type 0 where
   pub answers : answer ≡ judged .answer
-  pub leaves : after ≡ written judged before
+  pub leaves : after ≡ boundsAfter judged before
 
 -- the first n of these bounds, then the entries that the list had
 abbrev pub firstOf : {A : Type 0} → ℕ → List A → List A → List A

@@ -14,7 +14,7 @@ use Rattle.quantities.specs.Table.{rowsOf, emptyTable, withRow}
 use Rattle.quantities.specs.Checks.{listChecks, roomChecks, listFault, lentFault, checkedOf}
 use Rattle.quantities.specs.Lengths.{numbers}
 use Rattle.quantities.proofs.Sound.{sound-list-means}
-use Rattle.windows.specs.Answer.{Judged, judged, judgedInto, paperOf}
+use Rattle.windows.specs.Answer.{Judged, judged, judgedInto, answerPaper}
 use Rattle.windows.proofs.Into.{into-refused, into-room}
 use Rattle.records.specs.declared.Record.{Record}
 use Rattle.records.specs.declared.Record.the-variants.{Missing, Unknown, Cut, Board, Row as RowOf, End}
@@ -280,7 +280,7 @@ replay-answer cores table calls before after r is leaves =
 pub answer-for-c : (cores : ℕ) (triples : List (List ℕ)) (before after : List ℕ) (code : ℕ)
     → Exported (judgedInto cores (length before) (rowsFrom triples)) before after code
     → AnswerForC cores (rowsFrom triples) before after code
-unfolding paperOf
+unfolding answerPaper
 answer-for-c cores triples before after code exported =
     let rows = rowsFrom triples in
     let to-c = callers-in-c cores triples before after code exported in

@@ -15,7 +15,7 @@ use Rattle.quantities.specs.declared.Table.{Table}
 use Rattle.quantities.specs.declared.Checked.{Checked}
 use Rattle.quantities.specs.declared.Checked.the-variants.{Sound, Faulty}
 use Rattle.quantities.specs.Table.{rowsOf}
-use Rattle.quantities.specs.Paper.{paper, paperOf as checkedPaper}
+use Rattle.quantities.specs.Paper.{paper, checkedPaper}
 use Rattle.quantities.specs.Checks.{Check, FirstFailing}
 use Rattle.quantities.specs.Lengths.{numbers}
 use Rattle.windows.specs.declared.Answer.{Answer}

@@ -19,7 +19,7 @@ use Rattle.quantities.proofs.Checks.{lent-fault-list, lent-fault-short}
 use Rattle.quantities.proofs.Paper.{fault-first}
 use Rattle.quantities.proofs.Sound.{sound-list-means}
 use Rattle.windows.specs.declared.Answer.{Answer}
-use Rattle.windows.specs.Answer.{Judged, judged, judgedInto, written, paperOf}
+use Rattle.windows.specs.Answer.{Judged, judged, judgedInto, boundsAfter, answerPaper}
 use Rattle.windows.proofs.Into.{into-refused, into-room, refused-fault, few-bounds}
 use Rattle.analysis.specs.Analysis.{analysisOf}
 use Rattle.windows.proofs.Judgement.{judged-faulty}
@@ -50,7 +50,7 @@ use Rattle.promises.proofs.Windows.{judged-right, one-judgement-by-rule
 pub lent-answered : LentAnswered lent
 lent-answered cores rows before =
     let j = judgedInto cores (length before) rows in
-    record { after = written j before; answer = j .answer; given = record { answers = refl; leaves = refl } }
+    record { after = boundsAfter j before; answer = j .answer; given = record { answers = refl; leaves = refl } }
 
 pub of-lengths : OfLengths
 of-lengths =
@@ -62,7 +62,7 @@ of-lengths =
     }
 
 pub lent-turned-away : LentTurnedAway lent
-unfolding lentFault written
+unfolding lentFault boundsAfter
 lent-turned-away cores rows before after answer one given first =
     let first′ = rw (lent-order cores (length before) rows) at first in
     let fault = faultAt (one .number) (one .place) in
@@ -71,8 +71,8 @@ lent-turned-away cores rows before after answer one given first =
     let turned = turned-by one (judgedInto cores (length before) rows) is in
     record {
       answers = given .answers ∙ turned .answers;
-      on-paper = ap paperOf (given .answers) ∙ turned .on-paper;
-      same-list = given .leaves ∙ ap (λ (j : Judged). written j before) is;
+      on-paper = ap answerPaper (given .answers) ∙ turned .on-paper;
+      same-list = given .leaves ∙ ap (λ (j : Judged). boundsAfter j before) is;
     }
 
 pub refused-lent-has-fault : RefusedLentHasFault lent
@@ -83,14 +83,14 @@ refused-lent-has-fault cores rows before after fault given =
     (refused-fault (lentFault cores (length before) rows) cores rows fault (sym (given .answers))))
 
 pub lent-judged : LentJudged lent
-unfolding written
+unfolding boundsAfter
 lent-judged cores rows before after answer given range room =
     let sound = sound-in-range cores rows range in
     let is = into-room cores (length before) rows (sound-list-means cores rows .1 sound) room in
     let j = judged cores rows in
     let n = length (j .bounds) in
     let same : answer ≡ j .answer = given .answers ∙ ap (λ (k : Judged). k .answer) is in
-    let leaves : after ≡ written j before = given .leaves ∙ ap (λ (k : Judged). written k before) is in
+    let leaves : after ≡ boundsAfter j before = given .leaves ∙ ap (λ (k : Judged). boundsAfter k before) is in
     record {
       bounds = j .bounds;
       right = rw same (judged-right cores rows range);

@@ -10,14 +10,14 @@ use Rattle.quantities.specs.declared.Row.{Row}
 use Rattle.quantities.specs.declared.Fault.{Fault}
 use Rattle.quantities.specs.Row.{SoundRow, rowOf}
 use Rattle.quantities.specs.Paper.{paper, faultPaper}
-use Rattle.quantities.specs.Checks.{Check, check, isLast, rowChecks, rowsChecks, listChecks, roomChecks, firstFailing, faultFrom}
-use Rattle.quantities.specs.Checks.{FirstFailing, SoundList, listFault}
+use Rattle.quantities.specs.Checks.{Check, check, rowChecks, rowsChecks, listChecks, roomChecks, firstFailing, faultFrom}
+use Rattle.quantities.specs.Checks.{isLast, FirstFailing, SoundList, listFault}
 use Rattle.quantities.proofs.Sound.{first-found, sound-list-means}
 use Rattle.quantities.proofs.SoundRows.{sound-rows-each, each-sound-rows}
 use Rattle.quantities.proofs.Paper.{fault-first}
 use Rattle.quantities.proofs.Checks.{list-fault-many-rows, list-fault-many-cores, list-fault-rows, row-fault-6, rows-fault-here}
 use Rattle.windows.specs.declared.Answer.the-variants.{Refused}
-use Rattle.windows.specs.Answer.{Judged, judged, paperOf}
+use Rattle.windows.specs.Answer.{Judged, judged, answerPaper}
 use Rattle.windows.proofs.Into.{refused-fault}
 use Rattle.windows.proofs.Judgement.{judged-faulty}
 use Rattle.promises.specs.Lists.{
@@ -41,7 +41,8 @@ use Rattle.promises.specs.Lists.{
 pub rows-order : (place : ℕ) (rows : List Row) → rowsOrder place rows ≡ rowsChecks place rows
 unfolding rowChecks rowsChecks
 rows-order place [] = refl
-rows-order place (row ∷ rows) = ap (λ (later : List Check). rowChecks place (isLast rows) row ++ later) (rows-order (suc place) rows)
+rows-order place (row ∷ rows) =
+    ap (λ (later : List Check). rowChecks place (isLast rows) row ++ later) (rows-order (suc place) rows)
 
 pub list-order : (cores : ℕ) (rows : List Row) → listOrder cores rows ≡ listChecks cores rows
 unfolding listChecks
@@ -75,11 +76,11 @@ fault-of-first checks one first = ap faultFrom (first-found checks one first) �
 -- an answer with that fault is turned away by that check
 pub turned-by : (one : Check) (j : Judged)
     → j ≡ record { answer = Refused (faultAt (one .number) (one .place)); bounds = [] } → TurnedAwayBy one j
-unfolding paperOf
+unfolding answerPaper
 turned-by one j e =
     record {
       answers = ap (λ (k : Judged). k .answer) e;
-      on-paper = ap (λ (k : Judged). paperOf (k .answer)) e ∙ fault-on-paper (one .number) (one .place);
+      on-paper = ap (λ (k : Judged). answerPaper (k .answer)) e ∙ fault-on-paper (one .number) (one .place);
       no-bounds = ap (λ (k : Judged). k .bounds) e;
     }
 
@@ -147,7 +148,7 @@ taken-exactly cores rows = (by-fault (listFault cores rows) refl, in-range-taken
 
 -- The limits.
 pub cores-to-16 : CoresTo16
-unfolding paperOf faultPaper
+unfolding answerPaper faultPaper
 cores-to-16 rows r = (
   in-range-taken 16 rows (record { some-cores = omega arith; few-cores = omega arith; rows-in-range = r }),
   rw (judged-faulty 17 rows (faultAt 2 0)
@@ -155,7 +156,7 @@ cores-to-16 rows r = (
 )
 
 pub rows-to-32 : RowsTo32
-unfolding paperOf faultPaper
+unfolding answerPaper faultPaper
 rows-to-32 cores rows one few each = (
   λ many. in-range-taken cores rows
       (record {
@@ -168,7 +169,7 @@ rows-to-32 cores rows one few each = (
 )
 
 pub gaps-to-1000000 : GapsTo1000000
-unfolding paperOf faultPaper
+unfolding answerPaper faultPaper
 gaps-to-1000000 cores c d one few work in-time in-gap = (
   in-range-taken cores (rowOf c d 1000000 ∷ [])
       (record {

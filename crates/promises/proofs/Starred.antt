@@ -7,7 +7,7 @@ use Rattle.windows.specs.Window.{plain, carry, limit, interference}
 use Rattle.windows.specs.Choice.{most, passes}
 use Rattle.windows.specs.Least.{firstOf, least}
 use Rattle.windows.specs.Bound.{window, boundsBelow}
-use Rattle.windows.specs.Answer.{verdict, judgedAfter, judged, judgedInto, written, paperOf}
+use Rattle.windows.specs.Answer.{verdict, judgedAfter, judged, judgedInto, boundsAfter, answerPaper}
 use Rattle.bench.specs.Record.{lastBroken, rowBroken, rowsBroken, isFault, broken}
 use Rattle.bench.specs.Refusal.{firstRefusal, tooSoon, releaseTests, tickTests}
 use Rattle.bench.specs.Serving.{unit, units, less, worked, ends, since, finishOf, finished}
@@ -21,7 +21,8 @@ a & b = (a, b)
 
 pub starred : StarredHold
 unfolding plain carry limit interference most passes firstOf least window boundsBelow verdict judgedAfter judged judgedInto
-    written paperOf rowsOf rowChecks rowsChecks listChecks roomChecks firstFailing faultFrom listFault lentFault lastBroken
+    boundsAfter answerPaper rowsOf rowChecks rowsChecks listChecks roomChecks firstFailing faultFrom listFault lentFault
+    lastBroken
     rowBroken rowsBroken isFault broken firstRefusal tooSoon releaseTests tickTests unit units less worked ends since finishOf
     finished emptyBench openedAfter opened unless started release served moved taken tick after
 starred =

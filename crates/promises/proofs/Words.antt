@@ -11,8 +11,8 @@ use Rattle.laws.specs.Member.{Member}
 use Rattle.laws.proofs.Lists.{each-at}
 use Rattle.laws.proofs.Permuted.{permuted-back, permuted-length, permuted-member}
 use Rattle.quantities.specs.Checks.{Check, check, FirstFailing}
-use Rattle.quantities.specs.Paper.{Paper, FirstOf, paperOf as tablePaper}
-use Rattle.windows.specs.Answer.{paperOf}
+use Rattle.quantities.specs.Paper.{Paper, FirstOf, checkedPaper}
+use Rattle.windows.specs.Answer.{answerPaper}
 use Rattle.sheet.specs.Reader.{paperOf as sheetPaper}
 use Rattle.promises.specs.Words.{FirstAt, FirstHas, FirstMeans, EachMeans, StandsIn, MemberMeans, PermutedMeans}
 use Rattle.promises.specs.Words.{NothingRefused, WordsMean}
@@ -92,7 +92,7 @@ first-means =
     }
 
 nothing-refused : NothingRefused
-unfolding paperOf sheetPaper tablePaper
+unfolding answerPaper sheetPaper checkedPaper
 nothing-refused = record { of-a-list = refl; of-a-sheet = refl; of-a-table = refl }
 
 -- Each, and a member, by index.

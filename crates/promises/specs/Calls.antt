@@ -14,7 +14,7 @@ use Rattle.quantities.specs.declared.Instant.{Instant}
 use Rattle.quantities.specs.declared.Checked.the-variants.{Sound, Faulty}
 use Rattle.quantities.specs.Row.{rowOf}
 use Rattle.quantities.specs.Table.{rowsOf}
-use Rattle.quantities.specs.Paper.{paper, paperOf as checkedPaper, FirstOf}
+use Rattle.quantities.specs.Paper.{paper, checkedPaper, FirstOf}
 use Rattle.quantities.specs.Checks.{Check, check, FirstFailing}
 use Rattle.bench.specs.declared.Last.{Last}
 use Rattle.bench.specs.declared.Last.the-variants.{Never, At}

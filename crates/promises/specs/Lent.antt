@@ -12,7 +12,7 @@ use Rattle.quantities.specs.Checks.{Check, FirstFailing}
 use Rattle.quantities.specs.Lengths.{numbers}
 use Rattle.windows.specs.declared.Answer.{Answer}
 use Rattle.windows.specs.declared.Answer.the-variants.{Refused}
-use Rattle.windows.specs.Answer.{Judged, judged, judgedInto, paperOf}
+use Rattle.windows.specs.Answer.{Judged, judged, judgedInto, answerPaper}
 use Rattle.analysis.specs.Analysis.{analysisOf}
 use Rattle.lentrows.specs.declared.Told.{Told}
 use Rattle.lentrows.specs.Lent.{LentAnalysis, toldOf}
@@ -51,7 +51,7 @@ LentAnswered lend = (cores : ℕ) (rows : List Row) (before : List ℕ) → Answ
 -- list stays as it was: numbers 1 to 7 write nothing.
 pub record LeftAlone (one : Check) (before after : List ℕ) (answer : Answer) : Type 0 where
   pub answers : answer ≡ Refused (faultAt (one .number) (one .place))
-  pub on-paper : paperOf answer ≡ paper (one .number) (one .place)
+  pub on-paper : answerPaper answer ≡ paper (one .number) (one .place)
   pub same-list : after ≡ before
 
 abbrev pub LentTurnedAway : Lending → Type 0
@@ -138,7 +138,7 @@ pub record TriplesInOrder : Type 0 where
 pub record ToC (cores : ℕ) (rows : List Row) (before after : List ℕ) (code : ℕ) : Type 0 where
   pub answer : Answer
   pub given : lent cores rows before after answer
-  pub coded : code ≡ paperOf answer .number * 4294967296 + paperOf answer .place
+  pub coded : code ≡ answerPaper answer .number * 4294967296 + answerPaper answer .place
 
 abbrev pub CallersInC : Type 0
 CallersInC =

@@ -15,7 +15,7 @@ use Rattle.quantities.specs.Paper.{paper, faultPaper, FirstOf}
 use Rattle.quantities.specs.Checks.{Check, check, FirstFailing}
 use Rattle.windows.specs.declared.Answer.{Answer}
 use Rattle.windows.specs.declared.Answer.the-variants.{Refused}
-use Rattle.windows.specs.Answer.{Judged, judged, paperOf}
+use Rattle.windows.specs.Answer.{Judged, judged, answerPaper}
 
 -- the checks of the row at a place: 3, 4, 5, 6
 abbrev pub rowOrder : (place : ℕ) → Row → List Check
@@ -50,7 +50,7 @@ faultAt number (suc p) = OneRow number (suc p)
 -- no bounds.
 pub record TurnedAwayBy (one : Check) (j : Judged) : Type 0 where
   pub answers : j .answer ≡ Refused (faultAt (one .number) (one .place))
-  pub on-paper : paperOf (j .answer) ≡ paper (one .number) (one .place)
+  pub on-paper : answerPaper (j .answer) ≡ paper (one .number) (one .place)
   pub no-bounds : j .bounds ≡ []
 
 -- An answer that refuses nothing.
@@ -96,18 +96,18 @@ TakenExactly = (cores : ℕ) (rows : List Row) → NotRefused (judged cores rows
 abbrev pub CoresTo16 : Type 0
 CoresTo16 =
     (rows : List Row) → RowsInRange rows
-    → NotRefused (judged 16 rows .answer) × (paperOf (judged 17 rows .answer) ≡ paper 2 0)
+    → NotRefused (judged 16 rows .answer) × (answerPaper (judged 17 rows .answer) ≡ paper 2 0)
 
 -- 32 rows are taken, 33 are not;
 abbrev pub RowsTo32 : Type 0
 RowsTo32 =
     (cores : ℕ) (rows : List Row) → 1 ≤ cores → cores ≤ 16 → Each RowInRange rows
     → (length rows ≡ 32 → NotRefused (judged cores rows .answer))
-    × (length rows ≡ 33 → paperOf (judged cores rows .answer) ≡ paper 1 0)
+    × (length rows ≡ 33 → answerPaper (judged cores rows .answer) ≡ paper 1 0)
 
 -- a gap of 1,000,000 ticks is taken, one of 1,000,001 is not.
 abbrev pub GapsTo1000000 : Type 0
 GapsTo1000000 =
     (cores c d : ℕ) → 1 ≤ cores → cores ≤ 16 → 1 ≤ c → c ≤ d → d ≤ 1000000
     → NotRefused (judged cores (rowOf c d 1000000 ∷ []) .answer)
-    × (paperOf (judged cores (rowOf c d 1000001 ∷ []) .answer) ≡ paper 6 1)
+    × (answerPaper (judged cores (rowOf c d 1000001 ∷ []) .answer) ≡ paper 6 1)

@@ -11,7 +11,7 @@ use Rattle.quantities.specs.Row.{rowOf, noRow}
 use Rattle.quantities.specs.Paper.{paper}
 use Rattle.windows.specs.declared.Answer.the-variants.{Shown, NotShown, Refused}
 use Rattle.windows.specs.Window.{plain, carry}
-use Rattle.windows.specs.Answer.{Judged, judged, judgedInto, written, paperOf}
+use Rattle.windows.specs.Answer.{Judged, judged, judgedInto, boundsAfter, answerPaper}
 use Rattle.bench.specs.declared.Bench.{Bench}
 use Rattle.bench.specs.declared.Finish.{Finish}
 use Rattle.bench.specs.Step.{opened, tick}
@@ -37,8 +37,8 @@ listClaims =
     (judged 2 (rowOf 2 5 5 ∷ rowOf 3 8 8 ∷ rowOf 2 4 10 ∷ []) ≡ shown (2 ∷ 3 ∷ 4 ∷ []))
     ∷ (judged 2 (rowOf 2 5 5 ∷ rowOf 3 8 8 ∷ rowOf 2 4 10 ∷ rowOf 3 20 20 ∷ []) ≡ shown (2 ∷ 3 ∷ 4 ∷ 7 ∷ []))
     ∷ (judged 2 (rowOf 2 5 5 ∷ rowOf 3 8 8 ∷ rowOf 2 3 10 ∷ []) ≡ notShown 3 (2 ∷ 3 ∷ []))
-    ∷ (paperOf (NotShown 8 3) ≡ paper 8 3)
-    ∷ (written (judgedInto 2 4 (rowOf 2 5 5 ∷ rowOf 3 8 8 ∷ rowOf 2 3 10 ∷ [])) (90 ∷ 91 ∷ 92 ∷ 93 ∷ [])
+    ∷ (answerPaper (NotShown 8 3) ≡ paper 8 3)
+    ∷ (boundsAfter (judgedInto 2 4 (rowOf 2 5 5 ∷ rowOf 3 8 8 ∷ rowOf 2 3 10 ∷ [])) (90 ∷ 91 ∷ 92 ∷ 93 ∷ [])
     ≡ 2 ∷ 3 ∷ 92 ∷ 93 ∷ [])
     ∷ (judged 1 (rowOf 1 4 4 ∷ rowOf 2 6 6 ∷ rowOf 5 12 12 ∷ []) ≡ shown (1 ∷ 3 ∷ 12 ∷ []))
     ∷ (judged 1 (rowOf 1 4 4 ∷ rowOf 2 6 6 ∷ rowOf 5 11 12 ∷ []) ≡ notShown 3 (1 ∷ 3 ∷ []))

@@ -10,7 +10,7 @@ use Rattle.quantities.specs.Row.{noRow}
 use Rattle.quantities.specs.Paper.{paper}
 use Rattle.windows.specs.declared.Answer.the-variants.{Shown, NotShown}
 use Rattle.windows.specs.Window.{plain, carry, interference}
-use Rattle.windows.specs.Answer.{Judged, paperOf}
+use Rattle.windows.specs.Answer.{Judged, answerPaper}
 use Rattle.promises.specs.Lists.{ListInRange}
 
 -- (5) Without carry-in: W = floor(x / T) · C + min(x mod T, C).
@@ -84,7 +84,7 @@ pub record EveryRowShown (rows : List Row) (j : Judged) : Type 0 where
 -- window passes for it.
 pub record FirstRowNotShown (M : ℕ) (rows : List Row) (j : Judged) : Type 0 where
   pub says : j .answer ≡ NotShown 8 (suc (length (j .bounds)))
-  pub on-paper : paperOf (j .answer) ≡ paper 8 (suc (length (j .bounds)))
+  pub on-paper : answerPaper (j .answer) ≡ paper 8 (suc (length (j .bounds)))
   pub stands : length (j .bounds) < length rows
   pub none : NoWindow M rows (j .bounds) (length (j .bounds))
 

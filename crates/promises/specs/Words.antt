@@ -9,9 +9,9 @@ use Rattle.laws.specs.Each.{Each}
 use Rattle.laws.specs.Member.{Member}
 use Rattle.laws.specs.Permuted.{Permuted}
 use Rattle.quantities.specs.Checks.{Check, check, FirstFailing}
-use Rattle.quantities.specs.Paper.{Paper, paper, FirstOf, paperOf as tablePaper}
+use Rattle.quantities.specs.Paper.{Paper, paper, FirstOf, checkedPaper}
 use Rattle.quantities.specs.declared.Checked.the-variants.{Sound as Passed}
-use Rattle.windows.specs.Answer.{paperOf}
+use Rattle.windows.specs.Answer.{answerPaper}
 use Rattle.windows.specs.declared.Answer.the-variants.{Shown}
 use Rattle.sheet.specs.Reader.{paperOf as sheetPaper}
 use Rattle.sheet.specs.declared.Verdict.the-variants.{Sound}
@@ -44,9 +44,9 @@ pub record FirstMeans : Type 0 where
 
 -- Where nothing is refused, 0 at 0 stands for the number and the place: of a list, a sheet, a table.
 pub record NothingRefused : Type 0 where
-  pub of-a-list : paperOf Shown ≡ paper 0 0
+  pub of-a-list : answerPaper Shown ≡ paper 0 0
   pub of-a-sheet : sheetPaper Sound ≡ paper 0 0
-  pub of-a-table : tablePaper Passed ≡ paper 0 0
+  pub of-a-table : checkedPaper Passed ≡ paper 0 0
 
 -- Each element of a list has a property: the one at each index does.
 abbrev pub EachMeans : Type 1

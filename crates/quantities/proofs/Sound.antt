@@ -13,8 +13,8 @@ use Rattle.laws.specs.Each.{Each}
 use Rattle.laws.proofs.Tests.{or-false}
 use Rattle.quantities.specs.Limits.{rowCapacity, coreLimit, largestGap}
 use Rattle.quantities.specs.Row.{cost, deadline, gap}
-use Rattle.quantities.specs.Checks.{Check, isLast, rowChecks, firstFailing, faultFrom, rowFault, rowsFault, listFault, listChecks}
-use Rattle.quantities.specs.Checks.{SoundAt, SoundRows, SoundList, FirstFailing}
+use Rattle.quantities.specs.Checks.{Check, isLast, rowChecks, listChecks, firstFailing, FirstFailing, faultFrom}
+use Rattle.quantities.specs.Checks.{rowFault, rowsFault, listFault, SoundAt, SoundRows, SoundList}
 use Rattle.quantities.specs.declared.Row.{Row}
 use Rattle.quantities.specs.declared.Fault.{Fault}
 use Rattle.quantities.proofs.Checks.{fault-is-some, row-fault-none, rows-fault-here, rows-fault-below, rows-fault-none, list-fault-rows}

@@ -1,4 +1,4 @@
--- Laws of rows that are sound each where it stands: row by row, by index, and above an index; and which row is the last.
+-- Laws of rows that are sound each where it stands, by index and above an index; and which row is the last.
 use Prim.Native.Nat.{ℕ, zero, suc, _+_, _<_}
 use native.Mathlib.Omega.{arith}
 use mathlib.Core.Path.{_≡_, sym}

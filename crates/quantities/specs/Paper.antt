@@ -26,9 +26,9 @@ faultPaper (WholeList number) = paper number 0
 faultPaper (OneRow number place) = paper number place
 
 -- what the checks found, on paper
-unfoldable pub paperOf : Checked → Paper
-paperOf Sound = noRefusal
-paperOf (Faulty fault) = faultPaper fault
+unfoldable pub checkedPaper : Checked → Paper
+checkedPaper Sound = noRefusal
+checkedPaper (Faulty fault) = faultPaper fault
 
 -- The first of these checks that fails has this number and this place.
 pub record FirstOf (checks : List Check) (number-and-place : Paper) : Type 0 where

@@ -157,7 +157,8 @@ run-start cores table sound =
       inv =
           inv-start (sound .some-cores)
           (record { flags = []; vs = []; no-carrier = refl; no-work = refl; rows = no-rows })
-          (sound-rows-each (rowsOf table) (sound .sound-rows)) (judged-walk cores (rowsOf table) sound) rowCapacity (sound .few-rows);
+          (sound-rows-each (rowsOf table) (sound .sound-rows)) (judged-walk cores (rowsOf table) sound) rowCapacity
+          (sound .few-rows);
     }
 
 -- Demand 3: the bound of every row that has one holds on a running board.

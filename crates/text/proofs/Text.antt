@@ -61,7 +61,8 @@ module _ (M : ℕ) (rows : List Row) where
       ⊎-elim
       (λ (all : AllShown rows (judged M rows)). let z : _≡_ {A = ℕ} 0 1 = cc (all .says) in absurd (omega arith))
       (λ (none : FirstNotShown M rows (judged M rows)).
-      let same : NotShown number place ≡ NotShown lateNumber (suc (length (judged M rows .bounds))) = sym e ∙ none .says in
+      let same : NotShown number place ≡ NotShown lateNumber (suc (length (judged M rows .bounds))) =
+      sym e ∙ none .says in
       (cc, omega (arith, none .stands, sound .few-rows)))
       (judged-means M rows sound .ends)
 

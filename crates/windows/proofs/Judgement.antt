@@ -15,7 +15,7 @@ use Rattle.quantities.proofs.Sound.{sound-list-means}
 use Rattle.windows.specs.declared.Answer.the-variants.{Shown, NotShown, Refused}
 use Rattle.windows.specs.Choice.{Bounded, bounded}
 use Rattle.windows.specs.Bound.{boundOf, IsBound, NoBound, boundsBelow}
-use Rattle.windows.specs.Answer.{Judged, lateNumber, verdict, judgedAfter, judged, paperOf}
+use Rattle.windows.specs.Answer.{Judged, lateNumber, verdict, judgedAfter, judged, answerPaper}
 use Rattle.windows.specs.Judgement.{rowOfIndex, aboveIndex, AllShown, FirstNotShown, Judgement}
 use Rattle.windows.proofs.Least.{least-unique}
 use Rattle.windows.proofs.Bound.{window-some, window-none}
@@ -141,7 +141,7 @@ verdict-short count bounds e = rw (ne-eqb (length bounds) count e, verdict) refl
 -- the bounds of a walk with their verdict are a judgement
 verdict-means : (M : ℕ) (rows : List Row) (bounds : List ℕ) → Walk M [] rows bounds
     → Judgement M rows (verdict (length rows) bounds)
-unfolding verdict paperOf
+unfolding verdict answerPaper
 verdict-means M rows bounds w =
     record {
       least = λ k h. rw (above-on rows bounds k) at (walk-least w k h);

@@ -52,7 +52,10 @@ verdict-named count bounds number place = go (eqb (length bounds) count) refl
     go : (t : Bool) → eqb (length bounds) count ≡ t
         → (verdict count bounds .answer ≡ NotShown number place) ↔ Named count bounds number place
     go true q = (
-      λ e. let f : Shown ≡ NotShown number place = rw (q, verdict) at e in let z : _≡_ {A = ℕ} 0 1 = cc in absurd (omega arith),
+      λ e.
+          let f : Shown ≡ NotShown number place = rw (q, verdict) at e in
+          let z : _≡_ {A = ℕ} 0 1 = cc in
+          absurd (omega arith),
       λ both. absurd (both .0 (eqb-true (length bounds) count q)),
     )
     go false q = (

@@ -44,11 +44,11 @@ unfoldable pub judgedInto : (M entries : ℕ) → List Row → Judged
 judgedInto M entries rows = judgedAfter (lentFault M entries rows) M rows
 
 -- what the bounds list holds afterwards: the bounds in its first entries, every later entry as it was
-unfoldable pub written : Judged → List ℕ → List ℕ
-written j entries = j .bounds ++ drop (length (j .bounds)) entries
+unfoldable pub boundsAfter : Judged → List ℕ → List ℕ
+boundsAfter j entries = j .bounds ++ drop (length (j .bounds)) entries
 
 -- an answer on paper: the first row not shown stands there by its number and place
-unfoldable pub paperOf : Answer → Paper
-paperOf Shown = noRefusal
-paperOf (NotShown number place) = paper number place
-paperOf (Refused fault) = faultPaper fault
+unfoldable pub answerPaper : Answer → Paper
+answerPaper Shown = noRefusal
+answerPaper (NotShown number place) = paper number place
+answerPaper (Refused fault) = faultPaper fault

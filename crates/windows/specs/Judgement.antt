@@ -10,7 +10,7 @@ use Rattle.quantities.specs.declared.Row.{Row}
 use Rattle.windows.specs.declared.Answer.the-variants.{Shown, NotShown}
 use Rattle.windows.specs.Choice.{Bounded, bounded}
 use Rattle.windows.specs.Bound.{IsBound, NoBound}
-use Rattle.windows.specs.Answer.{Judged, lateNumber, paperOf}
+use Rattle.windows.specs.Answer.{Judged, lateNumber, answerPaper}
 
 -- the row with index k, counted from 0: it stands at place k + 1
 abbrev pub rowOfIndex : List Row → ℕ → Row
@@ -29,7 +29,7 @@ pub record AllShown (rows : List Row) (j : Judged) : Type 0 where
 -- The row below those with bounds is named by its number and place, and no window passes for it.
 pub record FirstNotShown (M : ℕ) (rows : List Row) (j : Judged) : Type 0 where
   pub says : j .answer ≡ NotShown lateNumber (suc (length (j .bounds)))
-  pub on-paper : paperOf (j .answer) ≡ paper lateNumber (suc (length (j .bounds)))
+  pub on-paper : answerPaper (j .answer) ≡ paper lateNumber (suc (length (j .bounds)))
   pub stands : length (j .bounds) < length rows
   pub none : NoBound M (aboveIndex rows (j .bounds) (length (j .bounds)))
       (rowOfIndex rows (length (j .bounds)))

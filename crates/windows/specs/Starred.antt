@@ -11,7 +11,7 @@ use Rattle.windows.specs.Window.{plain, carry, limit, interference}
 use Rattle.windows.specs.Choice.{most, passes}
 use Rattle.windows.specs.Least.{firstOf, least}
 use Rattle.windows.specs.Bound.{window, boundsBelow}
-use Rattle.windows.specs.Answer.{Judged, verdict, judgedAfter, judged, judgedInto, written, paperOf}
+use Rattle.windows.specs.Answer.{Judged, verdict, judgedAfter, judged, judgedInto, boundsAfter, answerPaper}
 
 -- answers as document 01 writes them down
 abbrev shown : List ℕ → Judged
@@ -39,8 +39,9 @@ claims =
     ∷ (judged 2 (rowOf 2 5 5 ∷ rowOf 3 8 8 ∷ rowOf 2 4 10 ∷ []) ≡ shown (2 ∷ 3 ∷ 4 ∷ []))
     ∷ (judged 2 (rowOf 2 5 5 ∷ rowOf 3 8 8 ∷ rowOf 2 4 10 ∷ rowOf 3 20 20 ∷ []) ≡ shown (2 ∷ 3 ∷ 4 ∷ 7 ∷ []))
     ∷ (judged 2 (rowOf 2 5 5 ∷ rowOf 3 8 8 ∷ rowOf 2 3 10 ∷ []) ≡ not-shown 3 (2 ∷ 3 ∷ []))
-    ∷ (paperOf (judged 2 (rowOf 2 5 5 ∷ rowOf 3 8 8 ∷ rowOf 2 3 10 ∷ []) .answer) ≡ record { number = 8; place = 3 })
-    ∷ (written (judgedInto 2 4 (rowOf 2 5 5 ∷ rowOf 3 8 8 ∷ rowOf 2 3 10 ∷ [])) (90 ∷ 91 ∷ 92 ∷ 93 ∷ [])
+    ∷ (answerPaper (judged 2 (rowOf 2 5 5 ∷ rowOf 3 8 8 ∷ rowOf 2 3 10 ∷ []) .answer)
+    ≡ record { number = 8; place = 3 })
+    ∷ (boundsAfter (judgedInto 2 4 (rowOf 2 5 5 ∷ rowOf 3 8 8 ∷ rowOf 2 3 10 ∷ [])) (90 ∷ 91 ∷ 92 ∷ 93 ∷ [])
     ≡ 2 ∷ 3 ∷ 92 ∷ 93 ∷ [])
     ∷ (judged 1 (rowOf 1 4 4 ∷ rowOf 2 6 6 ∷ rowOf 5 12 12 ∷ []) ≡ shown (1 ∷ 3 ∷ 12 ∷ []))
     ∷ (judged 1 (rowOf 1 4 4 ∷ rowOf 2 6 6 ∷ rowOf 5 11 12 ∷ []) ≡ not-shown 3 (1 ∷ 3 ∷ []))
@@ -59,7 +60,7 @@ a & b = (a, b)
 
 pub starred : Each (λ claim. claim) claims
 unfolding plain carry limit interference most passes firstOf least window boundsBelow verdict judgedAfter
-    judged judgedInto written paperOf rowChecks rowsChecks listChecks roomChecks firstFailing faultFrom
+    judged judgedInto boundsAfter answerPaper rowChecks rowsChecks listChecks roomChecks firstFailing faultFrom
     listFault lentFault
 starred =
     refl & refl & refl & refl & refl & refl & refl & refl & refl & refl & refl & refl & refl & refl & refl & refl & refl & refl & refl & refl & refl & tt

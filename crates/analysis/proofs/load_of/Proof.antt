@@ -40,14 +40,18 @@ carrying-le-carry own x b = interference-le-work own x (carry (cost (b .row)) (g
 sub-unfinished : tie.Need-sub-unfinished
 sub-unfinished c =
     let a = c .before .before .before .before .before .before .before .before .args in
-    rw (c .before .before .before .interference .ensures, c .before .before .before .before .before .plain-work .ensures, c .before .before .before .before .before .before .polls-work .ensures, c .before .before .before .before .before .before .before .cost .ensures)
-    (without-le-polls (a .own .0) (a .window .0) (bounded (a .row) (a .bound .0)))
+    let polls = c .before .before .before .before .before .before in
+    rw (c .before .before .before .interference .ensures, c .before .before .before .before .before .plain-work .ensures)
+    (rw (polls .polls-work .ensures, polls .before .cost .ensures)
+    (without-le-polls (a .own .0) (a .window .0) (bounded (a .row) (a .bound .0))))
 
 sub-cut : tie.Need-sub-cut
 sub-cut c =
     let a = c .before .before .before .before .before .before .before .before .before .before .args in
-    rw (c .before .before .before .before .interference2 .ensures, c .before .before .before .before .before .before .carry-work .ensures, c .before .before .before .before .before .before .before .before .before .cost .ensures)
-    (carrying-le-carry (a .own .0) (a .window .0) (bounded (a .row) (a .bound .0)))
+    let carry = c .before .before .before .before .before .before in
+    rw (c .before .before .before .before .interference2 .ensures, carry .carry-work .ensures)
+    (rw (carry .before .before .before .cost .ensures)
+    (carrying-le-carry (a .own .0) (a .window .0) (bounded (a .row) (a .bound .0))))
 
 smaller-requires : tie.Need-smaller-requires
 smaller-requires c κs = search needs
@@ -55,7 +59,8 @@ smaller-requires c κs = search needs
 returns : tie.Need-returns
 unfolding room
 returns c =
-    let cost = c .before .before .before .before .before .before .before .before .before .before .cost .ensures in
+    let polls = c .before .before .before .before .before .before .before .before .before in
+    let cost = polls .before .cost .ensures in
     let plain = c .before .before .before .before .before .before .before .before .plain-work .ensures in
     let carry = c .before .before .before .before .before .before .before .carry-work .ensures in
     let without = c .before .before .before .before .before .before .interference .ensures in
@@ -63,7 +68,7 @@ returns c =
     record {
       without = simp (without, plain, cost);
       carrying = simp (carrying, carry, cost);
-      roominess = simp (c .smaller .ensures, without, plain, carrying, carry, c .before .before .before .before .before .before .before .before .before .polls-work .ensures, cost);
+      roominess = simp (c .smaller .ensures, without, plain, carrying, carry, polls .polls-work .ensures, cost);
     }
 
 pub load-of-spec : {M : Type 1} → statement M

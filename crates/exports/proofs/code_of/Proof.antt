@@ -4,7 +4,7 @@ use native.Mathlib.Omega.{arith}
 use mathlib.Core.Path.{_≡_, refl, ap, _∙_}
 use Rattle.quantities.specs.declared.Fault.the-variants.{WholeList, OneRow}
 use Rattle.quantities.specs.Paper.{faultPaper}
-use Rattle.windows.specs.Answer.{paperOf}
+use Rattle.windows.specs.Answer.{answerPaper}
 use Rattle.windows.specs.declared.Answer.{Answer}
 use Rattle.windows.specs.declared.Answer.the-variants.{Shown, NotShown, Refused}
 use Rattle.exports.specs.Exported.{placeLimit, coded, codeOf, FitsCode}
@@ -15,31 +15,32 @@ use Rattle.exports.proofs.code_of.Tie as tie
 -- the place of each case fits where the answer's does
 module _ (answer : Answer) (fits : FitsCode answer) where
   not-shown-fits : (number place : ℕ) → answer ≡ NotShown number place → place < placeLimit
-  unfolding paperOf faultPaper
+  unfolding answerPaper faultPaper
   not-shown-fits number place e = rw e at fits
 
   one-row-fits : (number place : ℕ) → answer ≡ Refused (OneRow number place) → place < placeLimit
-  unfolding paperOf faultPaper
+  unfolding answerPaper faultPaper
   one-row-fits number place e = rw e at fits
 
 -- the code of each case
 module _ (answer : Answer) (r : ℕ) where
-  shown-code : answer ≡ Shown → r ≡ 0 → r ≡ codeOf (paperOf answer)
-  unfolding paperOf faultPaper
+  shown-code : answer ≡ Shown → r ≡ 0 → r ≡ codeOf (answerPaper answer)
+  unfolding answerPaper faultPaper
   shown-code e is = rw e is
 
   not-shown-code : (number place : ℕ) → answer ≡ NotShown number place → r ≡ coded number place
-      → r ≡ codeOf (paperOf answer)
-  unfolding paperOf faultPaper
+      → r ≡ codeOf (answerPaper answer)
+  unfolding answerPaper faultPaper
   not-shown-code number place e is = rw e is
 
-  whole-list-code : (number : ℕ) → answer ≡ Refused (WholeList number) → r ≡ coded number 0 → r ≡ codeOf (paperOf answer)
-  unfolding paperOf faultPaper
+  whole-list-code : (number : ℕ) → answer ≡ Refused (WholeList number) → r ≡ coded number 0
+      → r ≡ codeOf (answerPaper answer)
+  unfolding answerPaper faultPaper
   whole-list-code number e is = rw e is
 
   one-row-code : (number place : ℕ) → answer ≡ Refused (OneRow number place) → r ≡ coded number place
-      → r ≡ codeOf (paperOf answer)
-  unfolding paperOf faultPaper
+      → r ≡ codeOf (answerPaper answer)
+  unfolding answerPaper faultPaper
   one-row-code number place e is = rw e is
 
 enum-told : tie.Need-enum-told

@@ -9,7 +9,7 @@ use Rattle.quantities.specs.Lengths.{numbers}
 use Rattle.quantities.specs.declared.Row.{Row}
 use Rattle.quantities.specs.declared.Table.{Table}
 use Rattle.quantities.proofs.Rows.{length-rows}
-use Rattle.windows.specs.Answer.{Judged, judgedInto, paperOf}
+use Rattle.windows.specs.Answer.{Judged, judgedInto, answerPaper}
 use Rattle.windows.specs.declared.Answer.{Answer}
 use Rattle.lentrows.specs.Loaded.{tableOf}
 use Rattle.lentrows.specs.Lent.{firstOf, toldOf}
@@ -34,13 +34,13 @@ module _ (cores entries : ℕ) (rows : List Row) (table : Table) (loads : table 
 
   exported : (told : Told) → told ≡ toldOf (judgedInto cores entries (rowsOf table))
       → (before after : List ℕ) → after ≡ firstOf (told .shown) (numbers (told .bounds)) before
-      → (r : ℕ) → r ≡ codeOf (paperOf (told .answer))
+      → (r : ℕ) → r ≡ codeOf (answerPaper (told .answer))
       → Exported (judgedInto cores entries rows) before after r
   unfolding toldOf
   exported told tells before after leaves r is =
       let of-rows = tells ∙ ap toldOf same in
       record {
-        answers = is ∙ ap (λ (t : Told). codeOf (paperOf (t .answer))) of-rows;
+        answers = is ∙ ap (λ (t : Told). codeOf (answerPaper (t .answer))) of-rows;
         leaves = leaves ∙ told-written (judgedInto cores entries rows) told of-rows before;
       }
 

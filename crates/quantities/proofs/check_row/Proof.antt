@@ -10,7 +10,9 @@ use Rattle.quantities.proofs.check_row.Tie as tie
 
 returns : tie.Need-returns
 unfolding checkedOf
-returns c = let s = c .before .before in simp (row-fault-3 (s .args .place) (s .args .last) (s .args .row) (s .pre) (c .if1 .taken))
+returns c =
+    let s = c .before .before in
+    simp (row-fault-3 (s .args .place) (s .args .last) (s .args .row) (s .pre) (c .if1 .taken))
 
 costs-more-requires : tie.Need-costs-more-requires
 costs-more-requires c κs = search needs
@@ -28,7 +30,9 @@ returns-3 c =
     let early = c .before .before in
     let s = early .before .before .before .before in
     let in-time = ltb-false _ _ (sym (early .before .costs-more .ensures) ∙ early .if2 .left) in
-    simp (row-fault-5 (s .args .place) (s .args .last) (s .args .row) (s .pre) (early .before .before .if1 .left) in-time (c .if3 .taken))
+    simp
+    (row-fault-5 (s .args .place) (s .args .last) (s .args .row) (s .pre) (early .before .before .if1 .left) in-time
+    (c .if3 .taken))
 
 returns-4 : tie.Need-returns-4
 unfolding checkedOf

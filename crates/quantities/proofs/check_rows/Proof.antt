@@ -28,7 +28,8 @@ module _ (table : Table) (i : ℕ) (h : i < table .count) where
       let inside : i < length (rowsOf table) = omega (arith, length-rows table) in
       rw (add-one, is-last (rowsOf table) i inside, length-rows table) refl
 
-  stops : (f : Fault) → Faulty f ≡ checkedOf (rowFault (i + 1) (eqb (i + 1) (table .count)) (getD (table .rows) i noRow))
+  stops : (f : Fault)
+      → Faulty f ≡ checkedOf (rowFault (i + 1) (eqb (i + 1) (table .count)) (getD (table .rows) i noRow))
       → rowsFault (suc i) (drop i (rowsOf table)) ≡ some f
   stops f e =
       rw (rows-from table i h)

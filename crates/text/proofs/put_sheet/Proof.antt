@@ -40,20 +40,26 @@ sub-before c =
 
 put-bound-lines-requires-2 : tie.Need-put-bound-lines-requires-2
 put-bound-lines-requires-2 c κs =
-    let place = place-not-shown _ _ _ (analysed (c .before .before .before .before)) _ _ (c .before .before .answer .given .1) in
+    let at = c .before .before in
+    let place = place-not-shown _ _ _ (analysed (at .before .before)) _ _ (at .answer .given .1) in
     (omega arith, omega arith)
 
 mul-entry : tie.Need-mul-entry
 mul-entry c =
-    let place = place-not-shown _ _ _ (analysed (c .before .before .before .before .before .before .before)) _ _ (c .before .before .before .before .before .answer .given .1) in omega arith
+    let at = c .before .before .before .before .before in
+    let place = place-not-shown _ _ _ (analysed (at .before .before)) _ _ (at .answer .given .1) in
+    omega arith
 
 element-copy-out-entry : tie.Need-element-copy-out-entry
 element-copy-out-entry c =
-    let place = place-not-shown _ _ _ (analysed (c .before .before .before .before .before .before .before)) _ _ (c .before .before .before .before .before .answer .given .1) in omega arith
+    let at = c .before .before .before .before .before in
+    let place = place-not-shown _ _ _ (analysed (at .before .before)) _ _ (at .answer .given .1) in
+    omega arith
 
 put-not-shown-line-requires : tie.Need-put-not-shown-line-requires
 put-not-shown-line-requires c κs =
-    let place = place-not-shown _ _ _ (analysed (c .before .before .before .before .before .before .before .before .before)) _ _ (c .before .before .before .before .before .before .before .answer .given .1) in
+    let at = c .before .before .before .before .before .before .before in
+    let place = place-not-shown _ _ _ (analysed (at .before .before)) _ _ (at .answer .given .1) in
     omega (arith, c .before .before .before .before .put-bound-lines2 .ensures .1)
 
 enum-known-answer-2 : tie.Need-enum-known-answer-2
@@ -84,7 +90,8 @@ returns-2 c =
     let place = place-not-shown _ _ _ known _ _ told in
     let lines = c .before .before .before .before .before .before .before .put-bound-lines2 .ensures in
     let last = c .before .before .put-not-shown-line .ensures in
-    rw (text-not-shown _ _ _ known _ _ told) (puts-then (lines .0) (last .0), rw length-append (omega (arith, lines .1, last .1)))
+    rw (text-not-shown _ _ _ known _ _ told)
+    (puts-then (lines .0) (last .0), rw length-append (omega (arith, lines .1, last .1)))
 
 same-length-3 : tie.Need-same-length-3
 same-length-3 c = search needs

@@ -86,13 +86,16 @@ costs-less-requires c κs = search needs
 returns-5 : tie.Need-returns-5
 unfolding outcomeOf
 returns-5 c =
+    let above = ltb-true _ _ (sym (c .before .costs-less .ensures) ∙ c .if5 .taken) in
     let e4 = c .before .before in
     let e3 = e4 .before .before .before .before .before in
     let e2 = e3 .before in
     let k = e2 .before .before in
     let a = k .before .args in
     let whole = sym (k .broken .ensures) ∙ e2 .before .if1 .left in
-    sym (ap outcomeOf (release-23-above (a .t1) (a .place) (a .demand .0) whole (e2 .if2 .left) (e3 .if3 .left) (e4 .if4 .left) (ltb-true _ _ (sym (c .before .costs-less .ensures) ∙ c .if5 .taken))))
+    sym (ap outcomeOf
+    (release-23-above (a .t1) (a .place) (a .demand .0) whole (e2 .if2 .left) (e3 .if3 .left) (e4 .if4 .left)
+    above))
 
 too-soon-requires : tie.Need-too-soon-requires
 too-soon-requires c κs = search needs
@@ -109,7 +112,9 @@ returns-6 c =
     let k = e2 .before .before in
     let a = k .before .args in
     let whole = sym (k .broken .ensures) ∙ e2 .before .if1 .left in
-    sym (ap outcomeOf (release-22 (a .t1) (a .place) (a .demand .0) whole (e2 .if2 .left) (e3 .if3 .left) (e4 .if4 .left) fits (sym (t .too-soon .ensures) ∙ c .if6 .taken)))
+    sym (ap outcomeOf
+    (release-22 (a .t1) (a .place) (a .demand .0) whole (e2 .if2 .left) (e3 .if3 .left) (e4 .if4 .left)
+    fits (sym (t .too-soon .ensures) ∙ c .if6 .taken)))
 
 returns-7 : tie.Need-returns-7
 unfolding outcomeOf
@@ -124,7 +129,9 @@ returns-7 c =
     let k = e2 .before .before in
     let a = k .before .args in
     let whole = sym (k .broken .ensures) ∙ e2 .before .if1 .left in
-    sym (ap outcomeOf (release-21 (a .t1) (a .place) (a .demand .0) whole (e2 .if2 .left) (e3 .if3 .left) (e4 .if4 .left) fits (sym (t .too-soon .ensures) ∙ e6 .if6 .left) (c .if7 .taken)))
+    sym (ap outcomeOf
+    (release-21 (a .t1) (a .place) (a .demand .0) whole (e2 .if2 .left) (e3 .if3 .left) (e4 .if4 .left)
+    fits (sym (t .too-soon .ensures) ∙ e6 .if6 .left) (c .if7 .taken)))
 
 returns-8 : tie.Need-returns-8
 unfolding outcomeOf
@@ -139,7 +146,9 @@ returns-8 c =
     let k = e2 .before .before in
     let a = k .before .args in
     let whole = sym (k .broken .ensures) ∙ e2 .before .if1 .left in
-    sym (ap outcomeOf (release-permitted (a .t1) (a .place) (a .demand .0) whole (e2 .if2 .left) (e3 .if3 .left) (e4 .if4 .left) fits (sym (t .too-soon .ensures) ∙ e6 .if6 .left) (c .if7 .left)))
+    sym (ap outcomeOf
+    (release-permitted (a .t1) (a .place) (a .demand .0) whole (e2 .if2 .left) (e3 .if3 .left) (e4 .if4 .left)
+    fits (sym (t .too-soon .ensures) ∙ e6 .if6 .left) (c .if7 .left)))
 
 pub judge-release-spec : {M : Type 1} → statement M
 judge-release-spec =

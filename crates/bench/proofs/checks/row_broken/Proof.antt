@@ -26,7 +26,8 @@ unfolding rowBroken
 returns-3 c =
     let fits = c .before in
     let s = fits .before .before in
-    simp (sym (s .before .last-broken .ensures) ∙ s .if1 .left, sym (fits .before .costs-less .ensures) ∙ fits .if2 .left)
+    let cost = sym (fits .before .costs-less .ensures) ∙ fits .if2 .left in
+    simp (sym (s .before .last-broken .ensures) ∙ s .if1 .left, cost)
 
 pub row-broken-spec : {M : Type 1} → statement M
 row-broken-spec = tie.close (tie.spec last-broken-requires returns costs-less-requires returns-2 returns-3)
