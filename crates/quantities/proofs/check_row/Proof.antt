@@ -3,6 +3,7 @@ use native.Mathlib.Omega.{arith}
 use mathlib.Core.Path.{sym, _∙_}
 use borrow.Author.Needs.{needs}
 use borrow.Author.Tests.{ltb-true, ltb-false}
+use Rattle.quantities.specs.Row.{cost, deadline}
 use Rattle.quantities.specs.Checks.{SoundAt, checkedOf}
 use Rattle.quantities.proofs.Checks.{row-fault-3, row-fault-4, row-fault-5, row-fault-6, row-fault-none}
 use Rattle.quantities.proofs.check_row.Statement.{statement}
@@ -49,7 +50,8 @@ unfolding checkedOf
 returns-5 c =
     let early = c .before .before .before .before in
     let s = early .before .before .before .before in
-    let in-time = ltb-false _ _ (sym (early .before .costs-more .ensures) ∙ early .if2 .left) in
+    let row = s .args .row in
+    let in-time = ltb-false (deadline row) (cost row) (sym (early .before .costs-more .ensures) ∙ early .if2 .left) in
     let sound : SoundAt (s .args .last) (s .args .row) = record {
       some-work = omega arith;
       in-time = in-time;
