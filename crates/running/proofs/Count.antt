@@ -1,4 +1,4 @@
--- The count: the rows above cannot fill a window as long as the bound, so no window gets that long.
+-- The count: the rows above cannot fill a window that passes, so no stretch gets that long.
 use Prim.Native.Nat.{ℕ, _+_, _*_, _≤_, _<_, min}
 use mathlib.Core.Path.{_≡_, ap}
 use mathlib.Core.Bool.{Bool, true, false}
@@ -7,12 +7,11 @@ use native.Mathlib.Omega.{arith}
 use native.Mathlib.Decide.{decLe}
 use native.Mathlib.Nat.{mul-le-mul-left, mul-le-mul-right, le-of-mul-le-mul-left}
 use Rattle.laws.specs.Each.{Each}
-use Rattle.quantities.specs.Row.{cost}
 use Rattle.windows.specs.Window.{limit, interference}
-use Rattle.windows.specs.Choice.{Bounded, InRange, loads, carriers, total}
+use Rattle.windows.specs.Choice.{Bounded, InRange, Passes, loads, carriers, total}
 use Rattle.bench.specs.declared.RowState.{RowState}
 use Rattle.bench.specs.Serving.{total as sum}
-use Rattle.running.proofs.Invariant.{Above, no-rows, more, Shown}
+use Rattle.running.proofs.Invariant.{Above, no-rows, more}
 use Rattle.running.proofs.Phase.{work-le}
 use Rattle.running.proofs.Above.{flags-each}
 
@@ -59,24 +58,21 @@ cut-le-total own x ranges span (more {f = false} w work-v busy-v phase rows) =
 cut-le-total own x ranges span (more {f = true} w work-v busy-v phase rows) =
     omega (arith, work-le x (ranges .0) span phase, cut-le-total own x (ranges .1) span rows)
 
--- A window in which the row has not run its whole cost stays shorter than the bound. If it were as long, it
--- would have at least `limit` full ticks, and the rows above took M · limit in them; but the bound passes, so
--- they take less.
-pub short : {M now start busy own : ℕ} {b : Bounded} {above : List Bounded} {up : List RowState}
-    {fs : List Bool} {vs : List ℕ}
-    → Each InRange above → Shown M above b → carriers fs < M → sum vs ≡ M * busy
-    → Above now start busy above up fs vs
-    → own < cost (b .row) → now ≡ start + (busy + own) → busy + own ≤ b .bound → busy + own < b .bound
+-- A stretch in which the row judged has not run all its own work n stays shorter than each window x that passes
+-- with n. If it were as long, it would have at least `limit` full ticks, and the rows above took M · limit in
+-- them; but x passes, so they take less.
+pub short : {M now start busy own : ℕ} {above : List Bounded} {up : List RowState} {fs : List Bool} {vs : List ℕ}
+    (n x : ℕ)
+    → Each InRange above → carriers fs < M → sum vs ≡ M * busy → Above now start busy above up fs vs
+    → now ≡ start + (busy + own) → own < n → n ≤ x → Passes M n above x → now ≤ start + x → now < start + x
 unfolding limit
-short {M} {now} {start} {busy} {own} {b} {above} {fs} ranges shown few full rows unfinished span le =
-    elim (decLe (b .bound) (busy + own)) [ yes h ↦ absurd (long h) | no h ↦ omega arith ]
+short {M} {now} {start} {above} {fs} n x ranges few full rows span unfinished low passes le =
+    elim (decLe (start + x) now) [ yes h ↦ absurd (long h) | no h ↦ omega arith ]
   where
-    long : b .bound ≤ busy + own → ⊥
+    long : start + x ≤ now → ⊥
     long h =
-        let x = b .bound in
-        let range = shown .range in
-        let L = limit (cost (b .row)) x in
-        let most = shown .passes fs (record { each = flags-each rows; few = omega arith }) in
+        let L = limit n x in
+        let most = passes fs (record { each = flags-each rows; few = omega arith }) in
         let least = cut-total M L (omega arith) (omega arith) full rows in
-        let between = cut-le-total (cost (b .row)) x ranges (omega arith) rows in
+        let between = cut-le-total n x ranges (omega arith) rows in
         omega arith

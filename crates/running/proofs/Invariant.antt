@@ -56,20 +56,26 @@ pub data Mine (start : ℕ) (b : Bounded) (st : RowState) (own : ℕ) : Type 0 w
   resting : work st ≡ 0 → own ≡ 0 → Mine start b st own
   working : 0 < work st → start ≤ came st → own + work st ≤ cost (b .row) → Mine start b st own
 
--- The window of a row. Each tick since its start was full, with M rows above served, or served the row.
-pub record Window (M now : ℕ) (b : Bounded) (st : RowState) (above : List Bounded) (up : List RowState)
-    : Type 0 where
-  pub start : ℕ
+-- The ticks from `start` to now: in each, M rows above were served (a full tick), or the row judged was (one of
+-- its own). Of the row judged only `own` is known, so `within` speaks of every own work n that is not yet done,
+-- and of every window x that passes with it.
+pub record Stretch (M now start own : ℕ) (above : List Bounded) (up : List RowState) : Type 0 where
   pub busy : ℕ
-  pub own : ℕ
   pub flags : List Bool
   pub vs : List ℕ
   pub few : carriers flags < M
   pub span : now ≡ start + (busy + own)
-  pub within : busy + own < b .bound
   pub full : sum vs ≡ M * busy
-  pub mine : Mine start b st own
   pub rows : Above now start busy above up flags vs
+  pub within : (n x : ℕ) → own < n → n ≤ x → Passes M n above x → now < start + x
+
+-- The window of a row: where it began, the row's own part of it, and the stretch since then.
+pub record Window (M now : ℕ) (b : Bounded) (st : RowState) (above : List Bounded) (up : List RowState)
+    : Type 0 where
+  pub start : ℕ
+  pub own : ℕ
+  pub mine : Mine start b st own
+  pub stretch : Stretch M now start own above up
 
 -- A row whose bound is right: in range, and a window that passes.
 pub record Shown (M : ℕ) (above : List Bounded) (b : Bounded) : Type 0 where

@@ -4,6 +4,7 @@ pub mod Invariant
 pub mod Phase
 pub mod Above
 pub mod Count
+pub mod Stretch
 pub mod Tick
 pub mod Release
 pub mod Reading

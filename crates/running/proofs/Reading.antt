@@ -35,7 +35,7 @@ pub inv-at : {M now : ℕ} {above : List Bounded} {up : List RowState} {rows : L
     → RowFacts now (getD rows k noRow) (getD bounds k 0) (getD states k idle)
 inv-at done k h = absurd (omega arith)
 inv-at (next shown kept window below) zero h =
-    record { range = shown .range; known = kept .known; early = in-time window }
+    record { range = shown .range; known = kept .known; early = in-time shown window }
 inv-at (next shown kept window below) (suc k) h = inv-at below k (omega arith)
 
 -- a poll that ended at this place or below, of a row with one of these bounds, was in time
@@ -45,7 +45,7 @@ Ended place bounds poll =
     × ((k : ℕ) → k < length bounds → poll .place ≡ place + k → poll .response .0 ≤ getD bounds k 0)
 
 -- where there are no bounds, only the places matter
-ended-unbounded : (instant place : ℕ) (us : List ℕ) (states : List RowState)
+pub ended-unbounded : (instant place : ℕ) (us : List ℕ) (states : List RowState)
     → Each (λ (poll : Finish). place ≤ poll .place) (finished instant place us states)
 unfolding finished finishOf
 ended-unbounded instant place [] states = tt
@@ -64,7 +64,7 @@ ended-unbounded instant place (u ∷ us) (st ∷ states) =
     go false below = below
 
 -- a poll below stands one place lower
-ended-below : (place r : ℕ) (bounds : List ℕ) (poll : Finish) → Ended (suc place) bounds poll
+pub ended-below : (place r : ℕ) (bounds : List ℕ) (poll : Finish) → Ended (suc place) bounds poll
     → Ended place (r ∷ bounds) poll
 ended-below place r bounds poll (low, each) = (omega arith, at)
   where
@@ -80,7 +80,7 @@ since-le now bound Never h = omega arith
 since-le now bound (At at) h = omega arith
 
 -- the row itself ended its poll
-ended-here : (now place free r : ℕ) (bounds : List ℕ) (st : RowState) → (0 < work st → now < came st + r)
+pub ended-here : (now place free r : ℕ) (bounds : List ℕ) (st : RowState) → (0 < work st → now < came st + r)
     → ends (unit free (work st)) st ≡ true → Ended place (r ∷ bounds) (finishOf (suc now) place st)
 unfolding ends finishOf
 ended-here now place free r bounds st early ended = (omega arith, at)
@@ -121,5 +121,5 @@ ended-in-time {now} (next {rows} {r} {bounds} {st} {states} shown kept window be
     go : (e : Bool) → ends u st ≡ e → Each (Ended place (r ∷ bounds)) polls
         → Each (Ended place (r ∷ bounds))
         (elim e [ true ↦ finishOf (suc now) place st ∷ polls | false ↦ polls ])
-    go true e rest = (ended-here now place free r bounds st (in-time window) e, rest)
+    go true e rest = (ended-here now place free r bounds st (in-time shown window) e, rest)
     go false e rest = rest

@@ -13,7 +13,7 @@ use Rattle.bench.specs.Record.{work, idle}
 use Rattle.bench.specs.Step.{fresh}
 use Rattle.running.proofs.State.{ever, came}
 use Rattle.running.proofs.Invariant.{Keeps, Above, more, Mine, resting, working}
-use Rattle.running.proofs.Invariant.{Window, Inv, done, next}
+use Rattle.running.proofs.Invariant.{Stretch, Window, Inv, done, next}
 use Rattle.running.proofs.Phase.{phase-release}
 
 -- A release that the bench takes: 1 to C ticks, the gap is kept, and the last poll is over.
@@ -39,42 +39,42 @@ above-release begun (here a) (more w work-v busy-v phase rows) =
 above-release begun (there r) (more w work-v busy-v phase rows) =
     more w work-v busy-v phase (above-release begun r rows)
 
--- the window of a row when a row above it is released
-window-above : {M now demand : ℕ} {b : Bounded} {st : RowState} {above : List Bounded}
+-- a stretch, and the window of a row, when a row above is released
+pub stretch-release : {M now demand start own : ℕ} {above : List Bounded} {up up′ : List RowState}
+    → Released now demand above up up′ → Stretch M now start own above up → Stretch M now start own above up′
+stretch-release released before =
+    record {
+      busy = before .busy;
+      flags = before .flags;
+      vs = before .vs;
+      few = before .few;
+      span = before .span;
+      full = before .full;
+      rows = above-release (omega arith) released (before .rows);
+      within = before .within;
+    }
+
+pub window-above : {M now demand : ℕ} {b : Bounded} {st : RowState} {above : List Bounded}
     {up up′ : List RowState}
     → Released now demand above up up′ → Window M now b st above up → Window M now b st above up′
 window-above released window =
     record {
       start = window .start;
-      busy = window .busy;
       own = window .own;
-      flags = window .flags;
-      vs = window .vs;
-      few = window .few;
-      span = window .span;
-      within = window .within;
-      full = window .full;
       mine = window .mine;
-      rows = above-release (omega arith) released (window .rows);
+      stretch = stretch-release released (window .stretch);
     }
 
 -- the window of a row that is released itself
-window-mine : {M now demand : ℕ} {b : Bounded} {st : RowState} {above : List Bounded} {up : List RowState}
+pub window-mine : {M now demand : ℕ} {b : Bounded} {st : RowState} {above : List Bounded} {up : List RowState}
     → Allowed now demand (b .row) st → Window M now b st above up
     → Window M now b (fresh now demand) above up
 window-mine {now} {demand} {b} {st} allowed window =
     record {
       start = window .start;
-      busy = window .busy;
       own = window .own;
-      flags = window .flags;
-      vs = window .vs;
-      few = window .few;
-      span = window .span;
-      within = window .within;
-      full = window .full;
       mine = begun (window .mine);
-      rows = window .rows;
+      stretch = window .stretch;
     }
   where
     begun : Mine (window .start) b st (window .own) → Mine (window .start) b (fresh now demand)

@@ -37,7 +37,7 @@ use Rattle.running.proofs.Below.{opened-sound}
 use Rattle.running.proofs.Calls.{InRun, run-after, run-steps}
 
 -- a release that came less than the bound ago
-less-ago : (now bound : ℕ) (last : Last) → isAt last ≡ true → now < instantOf last + bound
+pub less-ago : (now bound : ℕ) (last : Last) → isAt last ≡ true → now < instantOf last + bound
     → LessAgo now bound last
 less-ago now bound Never at h = let z : _≡_ {A = ℕ} 0 1 = cc in absurd (omega arith)
 less-ago now bound (At at) is h = h

@@ -9,7 +9,7 @@ use Rattle.laws.specs.Each.{Each}
 use Rattle.quantities.specs.declared.Row.{Row}
 use Rattle.quantities.specs.Row.{SoundRow}
 use Rattle.quantities.specs.Checks.{SoundList}
-use Rattle.windows.specs.Choice.{Bounded, bounded, InRange, carriers}
+use Rattle.windows.specs.Choice.{Bounded, bounded, carriers}
 use Rattle.windows.specs.Answer.{judged, verdict}
 use Rattle.windows.specs.Bound.{IsBound}
 use Rattle.windows.proofs.Judgement.{Walk, over, stop, on, walk, judged-sound}
@@ -17,7 +17,7 @@ use Rattle.bench.specs.declared.RowState.{RowState}
 use Rattle.bench.specs.Record.{idle}
 use Rattle.bench.specs.Serving.{total as sum}
 use Rattle.running.proofs.Invariant.{Keeps, quiet, Above, more, resting}
-use Rattle.running.proofs.Invariant.{Window, Shown, Inv, done, next}
+use Rattle.running.proofs.Invariant.{Stretch, Window, Shown, Inv, done, next}
 
 -- Rows above of which none has done anything.
 pub record Untouched (above : List Bounded) (up : List RowState) : Type 0 where
@@ -38,24 +38,25 @@ untouched-below still =
       rows = more {v = 0} 0 (omega arith) (omega arith) (quiet refl refl) (still .rows);
     }
 
--- the window of a row on an empty bench begins at instant 0
-window-start : {M : ℕ} {b : Bounded} {above : List Bounded} {up : List RowState} → 0 < M → InRange b
-    → Untouched above up
-    → Window M 0 b idle above up
-window-start cores range still =
+-- a stretch on an empty bench begins at instant 0
+pub stretch-start : {M : ℕ} {above : List Bounded} {up : List RowState} → 0 < M → Untouched above up
+    → Stretch M 0 0 0 above up
+stretch-start cores still =
     record {
-      start = 0;
       busy = 0;
-      own = 0;
       flags = still .flags;
       vs = still .vs;
       few = omega (arith, still .no-carrier);
       span = refl;
-      within = omega arith;
       full = omega (arith, still .no-work);
-      mine = resting refl refl;
       rows = still .rows;
+      within = λ n x unfinished low passes. omega arith;
     }
+
+window-start : {M : ℕ} {b : Bounded} {above : List Bounded} {up : List RowState} → 0 < M → Untouched above up
+    → Window M 0 b idle above up
+window-start cores still =
+    record { start = 0; own = 0; mine = resting refl refl; stretch = stretch-start cores still }
 
 -- a least window is a bound that is right
 bound-shown : {M r : ℕ} {above : List Bounded} {row : Row} → SoundRow row → IsBound M above row r
@@ -77,7 +78,7 @@ inv-start cores still sound (stop unshown) n fits = done
 inv-start cores still sound (on least below) zero fits = absurd (omega arith)
 inv-start cores still sound (on {row} {b = r} least below) (suc n) fits =
     let shown = bound-shown (sound .0) least in
-    next shown (keeps-idle row r) (window-start cores (shown .range) still)
+    next shown (keeps-idle row r) (window-start cores still)
     (inv-start cores (untouched-below still) (sound .1) below n (omega arith))
 
 -- the bounds of a sound list are least windows, row by row

@@ -26,7 +26,7 @@ same-number : (why other : Refusal) → some other ≡ some why → refusalPaper
 same-number why other e n = let is : why ≡ other = cc in rw is at n
 
 -- where the tests of a release in their order end with 21, the last fails and the one before it does not
-last-failed : (place : ℕ) (t29 t20 t23 t22 t21 : Bool) (why : Refusal)
+pub last-failed : (place : ℕ) (t29 t20 t23 t22 t21 : Bool) (why : Refusal)
     → firstRefusal
     (test BrokenRecord t29
     ∷ test (NoPlace place) t20
