@@ -2,9 +2,9 @@
 use Prim.Native.Nat.{ℕ, zero, suc, _≤_, _<_}
 use native.Mathlib.Omega.{arith}
 use native.Mathlib.Decide.{ℕ-discrete}
-use mathlib.Core.Path.{_≡_, refl, ap, subst⁻¹}
+use mathlib.Core.Path.{_≡_, refl, subst⁻¹}
 use mathlib.Core.List.{List}
-use lib.ListN.{length, getD, List·getD-map}
+use lib.ListN.{getD, List·getD-map}
 use Rattle.laws.specs.Each.{Each}
 use Rattle.quantities.specs.Row.{noRow}
 use Rattle.quantities.specs.Table.{rowsOf}
@@ -16,11 +16,6 @@ use Rattle.quantities.proofs.Rows.{row-at}
 use Rattle.windows.specs.Choice.{Bounded, bounded}
 use Rattle.windows.specs.Judgement.{aboveIndex, rowOfIndex}
 use Rattle.analysis.specs.Engine.{above}
-
--- there are as many rows above an index as it says
-pub length-above : (rows : List Row) (bounds : List ℕ) (k : ℕ) → length (aboveIndex rows bounds k) ≡ k
-length-above rows bounds zero = refl
-length-above rows bounds (suc k) = ap suc (length-above rows bounds k)
 
 -- what holds of each row above an index holds of one of them
 pub each-above : (P : Bounded → Type 0) (rows : List Row) (bounds : List ℕ) (k i : ℕ) → i < k

@@ -15,7 +15,7 @@ use Rattle.windows.specs.Choice.{Bounded, load, loads, most}
 use Rattle.windows.proofs.Window.{interference-le-limit}
 use Rattle.windows.proofs.Choice.{most-le-limit}
 use Rattle.analysis.specs.Engine.{largestWindow, above}
-use Rattle.analysis.proofs.Above.{length-above}
+use Rattle.windows.proofs.Judgement.{length-above}
 
 -- no row takes more than the limit, and the limit is at most one tick more than the window
 pub limit-small : (own x : ℕ) → x ≤ largestWindow → limit own x ≤ suc largestWindow

@@ -10,6 +10,7 @@ use lib.ListN.{length, take, drop, set, replicate, length-take, length-map, leng
 use lib.Seq.{drop-cons, take-suc-set, drop-set-lt, drop-drop, getD-set-same, getD-set-other, append-snoc}
 use Rattle.laws.specs.Each.{Each}
 use Rattle.laws.proofs.Lists.{map-take, map-set}
+use Rattle.laws.proofs.Tests.{not-one}
 use Rattle.quantities.specs.Limits.{rowCapacity}
 use Rattle.quantities.specs.Row.{SoundRow, noRow}
 use Rattle.quantities.specs.Table.{rowsOf}
@@ -146,10 +147,10 @@ module _ (cores : ℕ) (table : Table) (bounds : List Ticks) (i : ℕ)
 -- what the code's answer for one row says of its bound
 pub found-some : (found : Option ℕ) (t : Ticks) → foundOf found ≡ At t → found ≡ some (t .0)
 unfolding foundOf
-found-some none t e = let z : _≡_ {A = ℕ} 0 1 = cc in absurd (omega arith)
+found-some none t e = absurd (not-one cc)
 found-some (some x) t e = let same : ticks x ≡ t = cc in ap (λ (l : Ticks). some (l .0)) same
 
 pub found-none : (found : Option ℕ) → foundOf found ≡ Nothing → found ≡ none
 unfolding foundOf
 found-none none e = refl
-found-none (some x) e = let z : _≡_ {A = ℕ} 0 1 = cc in absurd (omega arith)
+found-none (some x) e = absurd (not-one cc)

@@ -26,7 +26,7 @@ use Rattle.bench.specs.Record.{lastInstant, idle, rows, rowAt, stateAt, 
 use Rattle.bench.specs.Refusal.{firstRefusal, releaseTests, tickTests}
 use Rattle.bench.specs.Serving.{units, worked, finished}
 use Rattle.bench.specs.Step.{emptyBench, opened, fresh, started, served, moved, taken, release, tick}
-use Rattle.bench.specs.History.{Call, releases, ticks, doCall, after, concerns, callsTo, finishesTo, Heard, heardOf, heard}
+use Rattle.bench.specs.History.{Call, releases, ticks, doCall, after, concerns, callsTo, finishesTo, Heard, heardOf, heard, SameRun}
 use Rattle.bench.proofs.Record.{whole-unbroken}
 use Rattle.bench.proofs.Permitted.{MayRelease, may-release}
 use Rattle.bench.proofs.Steps.{release-taken, release-refused, tick-taken, tick-refused}
@@ -222,29 +222,23 @@ history-alike k (call ∷ calls) b b' a = go (concerns k call) refl (history-ali
         let (rest, told') = more (doCall b call .bench) b' (unconcerned-alike k b b' call q a) in
         rw (q, callsTo, heard, after) (rest, told')
 
--- What two runs have in common down to place k: the instant, the states, and what is heard there.
-pub record SameTo (k : ℕ) (b b' : Bench) (calls calls' : List Call) : Type 0 where
-  pub now : after b calls .now .0 ≡ after b' calls' .now .0
-  pub states : take k (after b calls .states) ≡ take k (after b' calls' .states)
-  pub heard : heard k b calls ≡ heard k b' calls'
-
 -- Two benches that are alike down to place k, with histories whose calls that concern those rows agree one by one.
-pub alike-runs : (k : ℕ) (b b' : Bench) → Alike k b b' → (calls calls' : List Call) → callsTo k calls ≡ callsTo k calls' → SameTo k b b' calls calls'
+pub alike-runs : (k : ℕ) (b b' : Bench) → Alike k b b' → (calls calls' : List Call) → callsTo k calls ≡ callsTo k calls' → SameRun k b b' calls calls'
 alike-runs k b b' a calls calls' e =
     let self : Alike k b' b'
     = record { agree = record { cores = refl; now = refl; rows = refl; states = refl }; kept = a .kept'; kept' = a .kept'; tall = a .tall'; tall' = a .tall' } in
     let (one, told) = rw e at (history-alike k calls b b' a) in
     let (two, told') = history-alike k calls' b' b' self in
     record {
-      now = one .agree .now ∙ sym (two .agree .now);
+      instant = one .agree .now ∙ sym (two .agree .now);
       states = one .agree .states ∙ sym (two .agree .states);
-      heard = told ∙ sym told';
+      answers = told ∙ sym told';
     }
 
 -- Rows below make no difference: opened on equal cores and tables that agree down to place k, whatever stands and happens below.
 pub rows-below : (k cores : ℕ) (table table' : Table) (b b' : Bench) → opened cores table ≡ some b → opened cores table' ≡ some b'
     → k ≤ length (rowsOf table) → k ≤ length (rowsOf table') → take k (rowsOf table) ≡ take k (rowsOf table')
-    → (calls calls' : List Call) → callsTo k calls ≡ callsTo k calls' → SameTo k b b' calls calls'
+    → (calls calls' : List Call) → callsTo k calls ≡ callsTo k calls' → SameRun k b b' calls calls'
 unfolding emptyBench
 rows-below k cores table table' b b' o o' tall tall' e =
     let same = opened-empty cores table b o .1 in

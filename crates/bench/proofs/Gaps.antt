@@ -30,6 +30,6 @@ unfolding tooSoon
 too-soon-later now gap last at e h = let z : now - at .0 ≡ 0 = omega arith in rw (e, z)
 
 -- what a release that is not too soon says of the last one
-pub gap-kept : (now gap : ℕ) (at : Instant) → at .0 ≤ now → tooSoon now gap (At at) ≡ false → at .0 + gap ≤ now
+pub gap-kept : (now gap : ℕ) (at : Instant) → tooSoon now gap (At at) ≡ false → gap ≤ now - at .0
 unfolding tooSoon
-gap-kept now gap at past e = omega (arith, ltb-false (now - at .0) gap e)
+gap-kept now gap at e = ltb-false (now - at .0) gap e

@@ -10,8 +10,8 @@ use lib.Dec.{eqb}
 use lib.ListN.{length, getD}
 use lib.Seq.{ext-getD}
 use borrow.Author.Tests.{eqb-true, eqb-false}
-use Rattle.laws.specs.Each.{Each}
 use Rattle.laws.specs.Member.{Member}
+use Rattle.laws.proofs.Lists.{each-member}
 use Rattle.quantities.specs.declared.Table.{Table}
 use Rattle.bench.specs.declared.RowState.{RowState}
 use Rattle.bench.specs.declared.Bench.{Bench}
@@ -80,12 +80,6 @@ same-polls place other (x ∷ xs) (y ∷ ys) r s f g =
     let up = rest-in y x ys xs (sym e) (s .1) g in
     let t = same-polls (suc (x .place)) (suc (y .place)) xs ys (r .1) (s .1) down up in
     cc
-
-each-member : (P : Finish → Type 0) (poll : Finish) (polls : List Finish)
-    → Each P polls → Member poll polls → P poll
-each-member P poll [] e m = absurd m
-each-member P poll (x ∷ xs) e m =
-    ⊎-elim (λ (q : poll ≡ x). rw q (e .0)) (λ t. each-member P poll xs (e .1) t) m
 
 -- Two benches, and two steps, with the same parts are the same.
 same-bench : (one other : Bench) → one .cores ≡ other .cores → one .table ≡ other .table

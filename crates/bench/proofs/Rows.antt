@@ -1,5 +1,5 @@
 -- Laws of one row's state: its last release, when its record is broken, and its part in a tick.
-use Prim.Native.Nat.{ℕ, zero, suc, _+_, _-_, _≤_, _<_, min}
+use Prim.Native.Nat.{ℕ, zero, suc, _-_, _<_, min}
 use native.Mathlib.Nat.{sub-zero}
 use native.Mathlib.Omega.{arith}
 use mathlib.Core.Path.{_≡_, refl, sym, _∙_}
@@ -13,11 +13,6 @@ use Rattle.bench.specs.declared.RowState.{RowState}
 use Rattle.bench.specs.declared.Turn.{Turn}
 use Rattle.bench.specs.Record.{work, lastBroken}
 use Rattle.bench.specs.Serving.{unit, less, ends, since, turnOf}
-
--- The ticks since a last release lead from it to the instant.
-pub since-release : (instant : ℕ) (at : Instant) → at .0 ≤ instant → at .0 + since instant (At at) ≡ instant
-unfolding since
-since-release instant at past = omega arith
 
 -- Since a release that is after the instant there are none.
 pub since-later : (instant : ℕ) (last : Last) (at : Instant) → last ≡ At at → instant < at .0 → since instant last ≡ 0

@@ -1,9 +1,10 @@
 -- Histories of calls: the run of a history from a bench, refused calls included, and what it did to a row.
 use Prim.Native.Nat.{ℕ, zero, suc, _+_, _-_}
+use mathlib.Core.Path.{_≡_}
 use mathlib.Core.Bool.{Bool, true, false, _&&_}
 use mathlib.Core.List.{List, [], _∷_}
 use lib.Dec.{eqb, leb, ltb}
-use lib.ListN.{getD}
+use lib.ListN.{getD, take}
 use Rattle.bench.specs.declared.Bench.{Bench}
 use Rattle.bench.specs.declared.Request.{Request}
 use Rattle.bench.specs.declared.Request.the-variants.{Release, Tick}
@@ -93,3 +94,10 @@ heard k b [] = []
 heard k b (call ∷ calls) =
     let rest = heard k (doCall b call .bench) calls in
     elim (concerns k call) [ true ↦ heardOf k (doCall b call) ∷ rest | false ↦ rest ]
+
+-- Two histories are the same for the rows down to place k: the instant, their states, and each answer to a
+-- tick or to a release of theirs.
+pub record SameRun (k : ℕ) (start start′ : Bench) (calls calls′ : List Call) : Type 0 where
+  pub instant : after start calls .now .0 ≡ after start′ calls′ .now .0
+  pub states : take k (after start calls .states) ≡ take k (after start′ calls′ .states)
+  pub answers : heard k start calls ≡ heard k start′ calls′

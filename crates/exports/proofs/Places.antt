@@ -1,28 +1,27 @@
 -- The place of an answer is small: at most one past the rows, and a loaded table counts at most one row too many.
 use Prim.Native.Nat.{ℕ, zero, suc, _+_, _≤_}
 use native.Mathlib.Omega.{arith}
-use native.Mathlib.Decide.{decLe, ℕ-discrete as decEq}
 use mathlib.Core.Path.{_≡_, refl}
 use mathlib.Core.Bool.{Bool, true, false}
 use mathlib.Core.List.{List, [], _∷_, _++_}
 use mathlib.Core.Option.{Option, none, some}
 use lib.ListN.{length}
-use borrow.Author.Tests.{lt-ltb, le-ltb}
 use Rattle.laws.specs.Each.{Each}
 use Rattle.laws.proofs.Lists.{each-append}
+use Rattle.laws.proofs.Tests.{not-one}
+use Rattle.quantities.proofs.Rows.{with-row-few}
+use Rattle.windows.proofs.Bound.{bounds-few}
 use Rattle.quantities.specs.Limits.{rowCapacity}
-use Rattle.quantities.specs.Table.{emptyTable, withRow}
+use Rattle.quantities.specs.Table.{emptyTable}
 use Rattle.quantities.specs.Checks.{Check, rowChecks, rowsChecks, listChecks, roomChecks, firstFailing, faultFrom, lentFault}
 use Rattle.quantities.specs.declared.Row.{Row}
-use Rattle.quantities.specs.declared.Table.{Table}
 use Rattle.quantities.specs.declared.Fault.{Fault}
 use Rattle.quantities.specs.declared.Fault.the-variants.{WholeList, OneRow}
-use Rattle.windows.specs.Bound.{boundsBelow, boundOf}
-use Rattle.windows.specs.Choice.{Bounded, bounded}
+use Rattle.windows.specs.Bound.{boundsBelow}
 use Rattle.quantities.specs.Paper.{faultPaper}
-use Rattle.windows.specs.Answer.{verdict, judgedAfter, judgedInto, answerPaper}
+use Rattle.windows.specs.Answer.{judgedAfter, judgedInto, answerPaper}
 use Rattle.windows.specs.declared.Answer.the-variants.{Refused}
-use Rattle.windows.proofs.Judgement.{verdict-all, verdict-short}
+use Rattle.windows.proofs.Judgement.{verdict-place}
 use Rattle.windows.specs.Judgement.{rowOfIndex}
 use Rattle.lentrows.specs.Loaded.{loaded}
 
@@ -41,7 +40,7 @@ rows-places n place (row ∷ rows) h =
 fault-place : (n : ℕ) (checks : List Check) (fault : Fault) → PlacesTo n checks
     → faultFrom (firstFailing checks) ≡ some fault → answerPaper (Refused fault) .place ≤ n
 unfolding firstFailing faultFrom answerPaper faultPaper
-fault-place n [] fault all e = let z : _≡_ {A = ℕ} 0 1 = cc in absurd (omega arith)
+fault-place n [] fault all e = absurd (not-one cc)
 fault-place n (one ∷ checks) fault all e = go (one .fails) refl (fault-place n checks fault (all .1))
   where
     failed : (place : ℕ) → one .place ≡ place → faultFrom (some one) ≡ some fault
@@ -69,25 +68,6 @@ lent-places n cores entries rows h =
     (omega arith, (omega arith, rows-places n 1 rows (omega arith)))
     (omega arith, tt)
 
--- there are no more bounds than rows
-bounds-few : (M : ℕ) (above : List Bounded) (rows : List Row) → length (boundsBelow M above rows) ≤ length rows
-unfolding boundsBelow
-bounds-few M above [] = omega arith
-bounds-few M above (row ∷ rows) = go (boundOf M above row) (λ b. bounds-few M (bounded row b ∷ above) rows)
-  where
-    go : (found : Option ℕ) → ((b : ℕ) → length (boundsBelow M (bounded row b ∷ above) rows) ≤ length rows)
-        → length {A = ℕ} (elim found [ none ↦ [] | some b ↦ b ∷ boundsBelow M (bounded row b ∷ above) rows ]) ≤ suc (length rows)
-    go none below = omega arith
-    go (some b) below = omega (arith, below b)
-
-verdict-place : (count : ℕ) (bounds : List ℕ) → answerPaper (verdict count bounds .answer) .place ≤ suc (length bounds)
-unfolding answerPaper faultPaper
-verdict-place count bounds =
-    elim (decEq (length bounds) count) [
-      | yes e ↦ rw (verdict-all count bounds e) (omega arith)
-      | no e ↦ rw (verdict-short count bounds e) (omega arith)
-    ]
-
 -- The place of an answer is at most one past the rows.
 pub into-place : (cores entries : ℕ) (rows : List Row)
     → answerPaper (judgedInto cores entries rows .answer) .place ≤ suc (length rows)
@@ -103,13 +83,6 @@ into-place cores entries rows = go (lentFault cores entries rows) refl
 
 -- A loaded table counts at most one row too many.
 pub loaded-count : (n : ℕ) (rows : List Row) → loaded n rows .count ≤ suc rowCapacity
-unfolding loaded emptyTable withRow
+unfolding loaded emptyTable
 loaded-count zero rows = omega arith
-loaded-count (suc n) rows = go (loaded n rows) (rowOfIndex rows n)
-  where
-    go : (table : Table) (row : Row) → withRow table row .count ≤ suc rowCapacity
-    go table row =
-        elim (decLe rowCapacity (table .count)) [
-          | yes h ↦ rw (le-ltb (table .count) rowCapacity h) (omega arith)
-          | no h ↦ rw (lt-ltb (table .count) rowCapacity (omega arith)) (omega arith)
-        ]
+loaded-count (suc n) rows = with-row-few (loaded n rows) (rowOfIndex rows n)

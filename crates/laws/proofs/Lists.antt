@@ -1,12 +1,14 @@
 -- Laws of lists that the kit's library does not have.
 use Prim.Native.Nat.{ℕ, zero, suc, _+_, _<_}
 use native.Mathlib.Nat.{zero-add, suc-add}
+use mathlib.Core.Logic.{inl, inr}
 use mathlib.Core.Path.{_≡_, refl, sym, ap}
 use mathlib.Core.List.{List, [], _∷_, _++_, map}
 use native.Mathlib.Omega.{arith}
 use lib.ListN.{length, getD, take, drop, set, replicate}
 use lib.Seq.{take-nil}
 use Rattle.laws.specs.Each.{Each}
+use Rattle.laws.specs.Member.{Member}
 
 module _ {A : Type 0} where
   -- where the default is repeated, the default is read at each index
@@ -31,6 +33,12 @@ module _ {A : Type 0} where
   each-at P [] i d h each = absurd (omega arith)
   each-at P (x ∷ xs) zero d h each = each .0
   each-at P (x ∷ xs) (suc i) d h each = each-at P xs i d (omega arith) (each .1)
+
+  -- and of one that stands in the list
+  pub each-member : (P : A → Type 0) (a : A) (xs : List A) → Each P xs → Member a xs → P a
+  each-member P a [] each member = absurd member
+  each-member P a (x ∷ xs) each (inl same) = rw same (each .0)
+  each-member P a (x ∷ xs) each (inr member) = each-member P a xs (each .1) member
 
   -- what is left of the first elements, past some of them, is the first of what is left
   pub drop-take : (m n : ℕ) (xs : List A) → drop m (take (m + n) xs) ≡ take n (drop m xs)

@@ -1,15 +1,14 @@
 -- What the statement of the analysis on a lent list says of the list afterwards: each sentence of specs/Lent.
-use Prim.Native.Nat.{ℕ, suc, _-_, _≤_}
+use Prim.Native.Nat.{ℕ, _-_, _≤_}
 use native.Mathlib.Omega.{arith}
 use native.Mathlib.Decide.{decLe}
 use mathlib.Core.Path.{_≡_, refl, sym, ap, _∙_}
-use mathlib.Core.Bool.{Bool, true, false}
 use mathlib.Core.List.{List, [], _∷_, cons-ne-nil, head-eq-of-cons-eq, tail-eq-of-cons-eq}
 use mathlib.Core.Option.{Option, none, some}
-use lib.Dec.{eqb}
 use lib.ListN.{length, drop, length-append, length-drop}
 use lib.Seq.{take-at, drop-at}
-use borrow.Author.Tests.{eqb-true}
+use Rattle.laws.proofs.Tests.{not-one}
+use Rattle.windows.proofs.Judgement.{verdict-shown, verdict-not-shown, verdict-not-refused}
 use Rattle.quantities.specs.Limits.{rowCapacity}
 use Rattle.quantities.specs.Checks.{listFault, lentFault}
 use Rattle.quantities.specs.Lengths.{ticks, numbers}
@@ -36,33 +35,6 @@ same-numbers (x ∷ xs) (y ∷ ys) e =
 pub one-outcome : OneOutcome
 one-outcome j before after after′ answer answer′ a b =
     (same-numbers after after′ (a .leaves ∙ sym (b .leaves)), a .answers ∙ sym (b .answers))
-
--- how many bounds a verdict has, by its answer
-verdict-shown : (count : ℕ) (bounds : List ℕ) → verdict count bounds .answer ≡ Shown → length bounds ≡ count
-unfolding verdict
-verdict-shown count bounds = go (eqb (length bounds) count) refl
-  where
-    go : (t : Bool) → eqb (length bounds) count ≡ t → verdict count bounds .answer ≡ Shown → length bounds ≡ count
-    go true q e = eqb-true (length bounds) count q
-    go false q e = let z : _≡_ {A = ℕ} 0 1 = cc (rw (q, verdict) at e) in absurd (omega arith)
-
-verdict-not-shown : (count number place : ℕ) (bounds : List ℕ) → verdict count bounds .answer ≡ NotShown number place
-    → suc (length bounds) ≡ place
-unfolding verdict
-verdict-not-shown count number place bounds = go (eqb (length bounds) count) refl
-  where
-    go : (t : Bool) → eqb (length bounds) count ≡ t → verdict count bounds .answer ≡ NotShown number place
-        → suc (length bounds) ≡ place
-    go true q e = let z : _≡_ {A = ℕ} 0 1 = cc (rw (q, verdict) at e) in absurd (omega arith)
-    go false q e = cc (rw (q, verdict) at e)
-
-verdict-not-refused : (count : ℕ) (bounds : List ℕ) (fault : Fault) → verdict count bounds .answer ≡ Refused fault → ⊥
-unfolding verdict
-verdict-not-refused count bounds fault = go (eqb (length bounds) count) refl
-  where
-    go : (t : Bool) → eqb (length bounds) count ≡ t → verdict count bounds .answer ≡ Refused fault → ⊥
-    go true q e = let z : _≡_ {A = ℕ} 0 1 = cc (rw (q, verdict) at e) in omega arith
-    go false q e = let z : _≡_ {A = ℕ} 0 1 = cc (rw (q, verdict) at e) in omega arith
 
 filled : (n : ℕ) (j : Judged) (before after : List ℕ) → length (j .bounds) ≡ n → after ≡ boundsAfter j before
     → Filled n (j .bounds) before after
@@ -96,7 +68,7 @@ shown-fills M rows before after = go (lentFault M (length before) rows) refl
     go none q meets =
         let all = verdict-shown (length rows) (boundsBelow M [] rows) (sym (rw (q, judgedAfter) at (meets .answers))) in
         filled (length rows) (judgedOver M rows before) before after (rw (q, judgedAfter) all) (meets .leaves)
-    go (some f) q meets = let z : _≡_ {A = ℕ} 0 1 = cc (rw (q, judgedAfter) at (meets .answers)) in absurd (omega arith)
+    go (some f) q meets = absurd (not-one (cc (rw (q, judgedAfter) at (meets .answers))))
 
 pub not-shown-leaves : NotShownLeaves
 unfolding judgedInto judgedAfter verdict
@@ -111,7 +83,7 @@ not-shown-leaves M rows before after number place = go (lentFault M (length befo
         (sym (rw (q, judgedAfter) at (meets .answers))) in
         filled (place - 1) (judgedOver M rows before) before after (rw (q, judgedAfter) (omega (arith, one-less)))
         (meets .leaves)
-    go (some f) q meets = let z : _≡_ {A = ℕ} 0 1 = cc (rw (q, judgedAfter) at (meets .answers)) in absurd (omega arith)
+    go (some f) q meets = absurd (not-one (cc (rw (q, judgedAfter) at (meets .answers))))
 
 -- There are no more bounds than entries, nor than a table has rows: none where the list is refused, else at most one per row.
 pub bounds-fit : (M entries : ℕ) (rows : List Row)

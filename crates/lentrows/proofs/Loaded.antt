@@ -3,10 +3,10 @@ use Prim.Native.Nat.{ℕ, zero, suc, _+_, _≤_, _<_}
 use native.Mathlib.Omega.{arith}
 use native.Mathlib.Decide.{decLe}
 use mathlib.Core.Path.{_≡_, refl, sym, ap, _∙_}
-use mathlib.Core.List.{List, _++_}
+use mathlib.Core.List.{List, [], _∷_, _++_}
 use mathlib.Core.Option.{some}
-use lib.ListN.{length, take, set, replicate, length-set, length-replicate}
-use lib.Seq.{take-suc, take-suc-set, take-append-le, take-length}
+use lib.ListN.{length, take, length-replicate}
+use lib.Seq.{take-suc, take-length}
 use Rattle.quantities.specs.Limits.{rowCapacity}
 use Rattle.quantities.specs.Row.{noRow}
 use Rattle.quantities.specs.Table.{rowsOf, emptyTable, withRow}
@@ -15,37 +15,36 @@ use Rattle.quantities.specs.declared.Row.{Row}
 use Rattle.quantities.specs.declared.Table.{Table}
 use Rattle.quantities.specs.declared.Fault.the-variants.{WholeList}
 use Rattle.quantities.proofs.Checks.{list-fault-many-rows}
-use Rattle.quantities.proofs.Rows.{length-rows, with-row-fits, with-row-full}
+use Rattle.quantities.proofs.Rows.{length-rows, with-row-full, with-row-count, with-row-length, with-row-rows}
 use Rattle.windows.specs.Answer.{judgedInto}
 use Rattle.windows.specs.Judgement.{rowOfIndex}
 use Rattle.lentrows.specs.Loaded.{loaded, tableOf}
 use Rattle.windows.proofs.Into.{into-faulty}
 
--- A table holds the first n rows of a list.
+-- A table with room for 32 rows holds the first n of a list.
 record Holds (rows : List Row) (n : ℕ) (table : Table) : Type 0 where
   counts : table .count ≡ n
   long : length (table .rows) ≡ rowCapacity
-  kept : take n (table .rows) ≡ take n rows
+  kept : rowsOf table ≡ take n rows
 
 module _ (rows : List Row) where
   holds-none : Holds rows 0 emptyTable
-  unfolding emptyTable
+  unfolding emptyTable rowsOf
   holds-none = record { counts = refl; long = length-replicate rowCapacity noRow; kept = refl }
 
   holds-next : (n : ℕ) (table : Table) → n < rowCapacity → n < length rows → Holds rows n table
       → Holds rows (suc n) (withRow table (rowOfIndex rows n))
   holds-next n table few h held =
-      rw (with-row-fits table (rowOfIndex rows n) (omega (arith, held .counts)), held .counts)
-      (record {
-        counts = omega arith;
-        long = length-set (table .rows) n (rowOfIndex rows n) ∙ held .long;
-        kept = kept-next;
-      })
-    where
-      kept-next : take (suc n) (set (table .rows) n (rowOfIndex rows n)) ≡ take (suc n) rows
-      kept-next =
-          let inside : n < length (table .rows) = omega (arith, held .long) in
-          rw (take-suc-set (table .rows) n (rowOfIndex rows n) inside, take-suc rows n noRow h, held .kept) refl
+      let row = rowOfIndex rows n in
+      let room : table .count < rowCapacity = omega (arith, held .counts) in
+      record {
+        counts = omega (arith, with-row-count table row room, held .counts);
+        long = with-row-length table row ∙ held .long;
+        kept =
+            with-row-rows table row (held .long) room
+            ∙ ap (λ (first : List Row). first ++ (row ∷ [])) (held .kept)
+            ∙ sym (take-suc rows n noRow h);
+      }
 
   -- as long as the rows fit, the table holds those loaded
   holds-loaded : (n : ℕ) → n ≤ rowCapacity → n ≤ length rows → Holds rows n (loaded n rows)
@@ -58,7 +57,9 @@ module _ (rows : List Row) where
   full-loaded : (n : ℕ) → rowCapacity < n → n ≤ length rows → loaded n rows .count ≡ suc rowCapacity
   unfolding loaded
   full-loaded zero few h = absurd (omega arith)
-  full-loaded (suc n) few h = with-row-full (loaded n rows) (rowOfIndex rows n) (full (decLe n rowCapacity) (full-loaded n))
+  full-loaded (suc n) few h =
+      ap (λ (t : Table). t .count)
+      (with-row-full (loaded n rows) (rowOfIndex rows n) (full (decLe n rowCapacity) (full-loaded n)))
     where
       full : Dec (n ≤ rowCapacity) → (rowCapacity < n → n ≤ length rows → loaded n rows .count ≡ suc rowCapacity)
           → rowCapacity ≤ loaded n rows .count
@@ -67,15 +68,7 @@ module _ (rows : List Row) where
 
   -- a list that fits is the rows of its table
   pub rows-loaded : length rows ≤ rowCapacity → rowsOf (tableOf rows) ≡ rows
-  unfolding rowsOf
-  rows-loaded few =
-      let n = length rows in
-      let held = holds-loaded n few (omega arith) in
-      let t = tableOf rows in
-      ap (λ k. take k (t .rows ++ replicate k noRow)) (held .counts)
-      ∙ take-append-le n (t .rows) (replicate n noRow) (omega (arith, held .long))
-      ∙ held .kept
-      ∙ take-length rows
+  rows-loaded few = holds-loaded (length rows) few (omega arith) .kept ∙ take-length rows
 
   -- too many rows are fault 1, and so is the table that they make
   many-faulty : (cores : ℕ) → rowCapacity < length rows

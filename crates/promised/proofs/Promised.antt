@@ -5,7 +5,7 @@ use native.Mathlib.Decide.{decLe}
 use mathlib.Core.Path.{_≡_, refl, sym, ap, subst, _∙_}
 use mathlib.Core.Bool.{Bool}
 use mathlib.Core.List.{List, [], _++_}
-use mathlib.Core.Option.{Option, none, some}
+use mathlib.Core.Option.{none}
 use lib.ListN.{length, drop}
 use Rattle.quantities.specs.declared.Row.{Row}
 use Rattle.quantities.specs.declared.Table.{Table}
@@ -31,7 +31,6 @@ use Rattle.bench.specs.declared.Bench.{Bench}
 use Rattle.bench.specs.declared.Finish.{Finish}
 use Rattle.bench.specs.declared.Request.{Request}
 use Rattle.bench.specs.declared.Request.the-variants.{Release, Tick}
-use Rattle.bench.specs.declared.Refusal.{Refusal}
 use Rattle.bench.specs.declared.Outcome.{Outcome as CallOutcome}
 use Rattle.bench.specs.declared.Opening.{Opening}
 use Rattle.bench.specs.declared.Released.{Released}
@@ -39,9 +38,9 @@ use Rattle.bench.specs.declared.Ticked.{Ticked}
 use Rattle.bench.specs.Refusal.{paperOf as benchPaper, firstRefusal, releaseTests, tickTests, outcomeOf}
 use Rattle.bench.specs.Record.{broken}
 use Rattle.bench.specs.Ended.{finishesOf}
-use Rattle.bench.specs.Step.{Step, openingOf, release, tick, releasedOf, tickedOf}
+use Rattle.bench.specs.Step.{openingOf, release, tick, releasedOf, tickedOf}
 use Rattle.bench.specs.History.{releases, ticks, doCall, callOf}
-use Rattle.bench.proofs.Steps.{release-taken, release-refused}
+use Rattle.bench.proofs.Steps.{release-no-polls}
 use Rattle.replay.specs.declared.Replayed.{Replayed}
 use Rattle.replay.specs.Replay.{Replay, replay}
 use Rattle.promises.specs.Lists.{faultAt}
@@ -220,16 +219,6 @@ tick-answer b r many is =
           record { polls = tick b .finishes; listed = ended-listed .1 b; serves = tick-serves b many passed };
     })
 
--- a release ends no poll, whether it is taken or not
-none-ends : (b : Bench) (place demand : ℕ) → release b place demand .finishes ≡ []
-unfolding release
-none-ends b place demand = go (firstRefusal (releaseTests b place demand)) refl
-  where
-    go : (found : Option Refusal) → firstRefusal (releaseTests b place demand) ≡ found
-        → release b place demand .finishes ≡ []
-    go none q = ap (λ (step : Step). step .finishes) (release-taken b place demand q)
-    go (some why) q = ap (λ (step : Step). step .finishes) (release-refused b place demand why q)
-
 pub request-answer : (b : Bench) (request : Request) (r : Ticked) → length (b .states) ≡ 32
     → r ≡ tickedOf (doCall b (callOf request)) → RequestAnswer b request r
 unfolding tickedOf releasedOf release callOf
@@ -238,7 +227,7 @@ request-answer b (Release place demand) r many is = (
   release-answer b place (demand .0) (record { outcome = r .outcome; bench = r .bench }) many
       (ap (λ (answer : Ticked). record { outcome = answer .outcome; bench = answer .bench }) is),
   rw is
-      (subst (λ (polls : List Finish). ListsPolls [] (finishesOf polls)) (sym (none-ends b place (demand .0)))
+      (subst (λ (polls : List Finish). ListsPolls [] (finishesOf polls)) (sym (release-no-polls b place (demand .0)))
       (ended-listed .0 [] (omega arith))),
 )
 

@@ -6,6 +6,7 @@ use mathlib.Core.Bool.{Bool}
 use mathlib.Core.List.{List, [], _∷_, _++_}
 use mathlib.Core.Option.{Option, none, some}
 use Rattle.laws.proofs.Lists.{each-map}
+use Rattle.laws.proofs.Tests.{not-one}
 use Rattle.quantities.specs.declared.Row.{Row}
 use Rattle.quantities.specs.declared.Fault.{Fault}
 use Rattle.quantities.specs.Row.{SoundRow, rowOf}
@@ -135,8 +136,7 @@ unfolding judged
 in-range-taken cores rows r fault e =
     let found = refused-fault (listFault cores rows) cores rows fault e in
     let sound = sound-list-means cores rows .1 (sound-in-range cores rows r) in
-    let z : _≡_ {A = ℕ} 0 1 = cc in
-    omega arith
+    not-one cc
 
 pub taken-exactly : TakenExactly
 taken-exactly cores rows = (by-fault (listFault cores rows) refl, in-range-taken cores rows)

@@ -7,13 +7,12 @@ use mathlib.Core.List.{List, [], _∷_, _++_}
 use mathlib.Core.Option.{some}
 use lib.ListN.{length}
 use Rattle.laws.specs.Each.{Each}
-use Rattle.laws.specs.Member.{Member}
+use Rattle.laws.proofs.Lists.{each-member}
 use Rattle.quantities.specs.declared.Instant.{Instant}
 use Rattle.quantities.specs.declared.Table.{Table}
 use Rattle.bench.specs.declared.Last.{Last}
 use Rattle.bench.specs.declared.Last.the-variants.{At}
 use Rattle.bench.specs.declared.Bench.{Bench}
-use Rattle.bench.specs.declared.Finish.{Finish}
 use Rattle.bench.specs.Record.{stateAt}
 use Rattle.bench.specs.Step.{Step, opened, release, tick}
 use Rattle.bench.specs.History.{Call, releases, ticks, doCall, after, steps}
@@ -57,13 +56,6 @@ opened-in-time cores table start is place first within =
 less-ago : (now bound released : ℕ) (last : Last) → last ≡ At (record { 0 = released })
     → LessAgo now bound last → now < released + bound
 less-ago now bound released last is ago = rw is at ago
-
--- what holds of each poll of a list holds of one that stands in it
-each-member : (P : Finish → Type 0) (polls : List Finish) (poll : Finish) → Member poll polls → Each P polls
-    → P poll
-each-member P [] poll member each = absurd member
-each-member P (other ∷ polls) poll (inl same) each = rw same (each .0)
-each-member P (other ∷ polls) poll (inr member) each = each-member P polls poll member (each .1)
 
 -- The poll ends in a history; b is a bench on the way, at whatever instant after the release.
 record EndsIn (b : Bench) (more : List Call) (place released bound : ℕ) : Type 0 where
@@ -115,7 +107,7 @@ module _ (place released bound : ℕ) (first : 1 ≤ place) where
         none-before = tt;
         ends = now;
         in-time =
-            each-member _ (tick b .finishes) _ (now .lists .listed) (in-time .ends (ticks ∷ []) .0) refl;
+            each-member _ _ (tick b .finishes) (in-time .ends (ticks ∷ []) .0) (now .lists .listed) refl;
       }
 
   -- The poll ends in a history or waits to its end.

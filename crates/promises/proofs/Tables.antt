@@ -1,6 +1,6 @@
 -- A table is made and checked as specs/Tables.antt says.
 use mathlib.Core.Path.{refl, ap, _∙_}
-use borrow.Author.Tests.{le-ltb}
+use Rattle.quantities.specs.declared.Table.{Table}
 use Rattle.quantities.specs.Table.{rowsOf, emptyTable, withRow}
 use Rattle.quantities.specs.Checks.{listChecks, listFault, checkedOf}
 use Rattle.quantities.proofs.Rows.{length-rows, rows-kept, with-row-full, with-row-rows}
@@ -12,15 +12,15 @@ pub named-limits : NamedLimits
 named-limits = record { rows = refl; cores = refl; gap = refl }
 
 pub table-made : TableMade
-unfolding rowsOf emptyTable withRow
+unfolding rowsOf emptyTable
 table-made =
     record {
       counts = length-rows;
       holds = rows-kept;
       empty = refl;
       one-more = with-row-rows;
-      full = λ table row h. length-rows (withRow table row) ∙ with-row-full table row h;
-      full-keeps = λ table row h. rw (le-ltb (table .count) 32 h) refl;
+      full = λ table row h. length-rows (withRow table row) ∙ ap (λ (t : Table). t .count) (with-row-full table row h);
+      full-keeps = λ table row h. ap (λ (t : Table). t .rows) (with-row-full table row h);
     }
 
 pub table-checked : TableChecked

@@ -10,6 +10,7 @@ use mathlib.Core.Option.{Option, none, some}
 use borrow.Author.Tests.{le-ltb}
 use lib.ListN.{length, getD, length-map, length-take}
 use lib.Seq.{getD-take}
+use Rattle.laws.proofs.Tests.{not-one}
 use Rattle.quantities.specs.declared.Row.{Row}
 use Rattle.quantities.specs.declared.Fault.{Fault}
 use Rattle.quantities.specs.Checks.{Check, FirstFailing, listFault, listChecks}
@@ -245,12 +246,10 @@ module _ (cores tick : ℕ) (entries : List Entry) where
       e ∙ rw bounds (sym f)
   one-text a b (all-shown xs range p e) (not-shown n ys range′ q f) =
       let same = one-judgement-by-rules cores (rowsIn entries) _ _ p q in
-      let z : _≡_ {A = ℕ} 0 1 = cc (ap (λ (j : Judged). j .answer) same) in
-      absurd (omega arith)
+      absurd (not-one (cc (ap (λ (j : Judged). j .answer) same)))
   one-text a b (not-shown n ys range′ q f) (all-shown xs range p e) =
       let same = one-judgement-by-rules cores (rowsIn entries) _ _ p q in
-      let z : _≡_ {A = ℕ} 0 1 = cc (ap (λ (j : Judged). j .answer) same) in
-      absurd (omega arith)
+      absurd (not-one (cc (ap (λ (j : Judged). j .answer) same)))
   one-text a b (not-shown m xs range p e) (not-shown n ys range′ q f) =
       let same = one-judgement-by-rules cores (rowsIn entries) _ _ p q in
       let bounds : xs ≡ ys = ap (λ (j : Judged). j .bounds) same in

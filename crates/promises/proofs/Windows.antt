@@ -15,8 +15,8 @@ use Rattle.windows.specs.Choice.{Bounded, loads, carriers, total, Permitted, Pa
 use Rattle.windows.specs.Bound.{IsBound, NoBound}
 use Rattle.windows.specs.Answer.{Judged, judged}
 use Rattle.windows.specs.Judgement.{aboveIndex, AllShown, FirstNotShown, Judgement}
-use Rattle.windows.proofs.Choice.{Attains, attained, total-le-most}
-use Rattle.windows.proofs.Judgement.{judged-means, one-judgement}
+use Rattle.windows.proofs.Choice.{Attains, attained, total-le-most, length-loads}
+use Rattle.windows.proofs.Judgement.{judged-means, one-judgement, length-above}
 use Rattle.promises.specs.Windows.{
   worksAtMost,
   rowAt,
@@ -70,10 +70,6 @@ length-chosen : (carries : ℕ → Bool) (rows : List Row) (bounds : List ℕ) (
 length-chosen carries rows bounds zero = refl
 length-chosen carries rows bounds (suc n) = ap suc (length-chosen carries rows bounds n)
 
-length-above : (rows : List Row) (bounds : List ℕ) (n : ℕ) → length (aboveIndex rows bounds n) ≡ n
-length-above rows bounds zero = refl
-length-above rows bounds (suc n) = ap suc (length-above rows bounds n)
-
 carriers-chosen : (carries : ℕ → Bool) (n : ℕ) → carriers (chosen carries n) ≡ carryInRows carries n
 carriers-chosen carries zero = refl
 carriers-chosen carries (suc n) = go (carries n) (carriers-chosen carries n)
@@ -106,11 +102,6 @@ total-chosen rows bounds own x carries (suc n) = go (carries n) (total-chosen ro
         → total (loads own x (aboveIndex rows bounds (suc n))) (b ∷ chosen carries n) ≡ same + takes b
     go true e = added-last (takes true) before same e
     go false e = added-last (takes false) before same e
-
--- a load for each row above
-length-loads : (own x : ℕ) (above : List Bounded) → length (loads own x above) ≡ length above
-length-loads own x [] = refl
-length-loads own x (b ∷ above) = ap suc (length-loads own x above)
 
 -- The literal test is the one that the answer's own proof speaks of.
 module _ (M : ℕ) (rows : List Row) (bounds : List ℕ) (k x : ℕ) where

@@ -2,7 +2,8 @@
 use Prim.Native.Nat.{ℕ, suc, _+_, _≤_, _<_}
 use native.Mathlib.Omega.{arith}
 use native.Mathlib.Numerals.{add-one}
-use mathlib.Core.Path.{_≡_, refl, subst}
+use native.Mathlib.Decide.{decLt}
+use mathlib.Core.Path.{_≡_, refl, ap, subst}
 use mathlib.Core.List.{[], _∷_, _++_}
 use lib.ListN.{length, getD, take, drop, set, replicate, length-take, length-append, length-replicate, length-set, drop-of-length-le}
 use lib.Seq.{drop-cons, getD-take, take-append-le, take-suc-set}
@@ -53,9 +54,29 @@ pub with-row-fits : (table : Table) (row : Row) → table .count < rowCapacity
 unfolding withRow
 with-row-fits table row h = rw (lt-ltb (table .count) rowCapacity h) refl
 
-pub with-row-full : (table : Table) (row : Row) → rowCapacity ≤ table .count → withRow table row .count ≡ suc rowCapacity
+pub with-row-full : (table : Table) (row : Row) → rowCapacity ≤ table .count
+    → withRow table row ≡ record { count = rowCapacity + 1; rows = table .rows }
 unfolding withRow
 with-row-full table row h = rw (le-ltb (table .count) rowCapacity h) refl
+
+-- so it counts one row more while there is room, never more than one too many, and keeps as many entries as it had
+pub with-row-count : (table : Table) (row : Row) → table .count < rowCapacity
+    → withRow table row .count ≡ table .count + 1
+with-row-count table row h = ap (λ (t : Table). t .count) (with-row-fits table row h)
+
+pub with-row-few : (table : Table) (row : Row) → withRow table row .count ≤ suc rowCapacity
+with-row-few table row =
+    elim (decLt (table .count) rowCapacity) [
+      | yes room ↦ rw (with-row-fits table row room) (omega arith)
+      | no full ↦ rw (with-row-full table row (omega arith)) (omega arith)
+    ]
+
+pub with-row-length : (table : Table) (row : Row) → length (withRow table row .rows) ≡ length (table .rows)
+with-row-length table row =
+    elim (decLt (table .count) rowCapacity) [
+      | yes room ↦ rw (with-row-fits table row room) (length-set (table .rows) (table .count) row)
+      | no full ↦ rw (with-row-full table row (omega arith)) refl
+    ]
 
 pub with-row-rows : (table : Table) (row : Row) → length (table .rows) ≡ rowCapacity → table .count < rowCapacity
     → rowsOf (withRow table row) ≡ rowsOf table ++ (row ∷ [])

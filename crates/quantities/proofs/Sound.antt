@@ -87,9 +87,6 @@ sound-row place last row e =
       short-gap = ltb-false largestGap (gap row) (tests .1 .1 .1 .0);
     }
 
-pub sound-row-means : (place : ℕ) (last : Bool) (row : Row) → (rowFault place last row ≡ none) ↔ SoundAt last row
-sound-row-means place last row = (sound-row place last row, row-fault-none place last row)
-
 -- rows without fault are sound
 pub sound-rows-means : (place : ℕ) (rows : List Row) → (rowsFault place rows ≡ none) ↔ SoundRows rows
 sound-rows-means place [] = ((λ e. tt), (λ e. rows-fault-none place))
@@ -131,12 +128,3 @@ sound-list-means cores rows = (there, back)
     back : SoundList cores rows → listFault cores rows ≡ none
     back s =
         list-fault-rows cores rows (omega arith) (s .few-rows) (omega arith) (s .few-cores) ∙ sound-rows-means 1 rows .1 (s .sound-rows)
-
--- and that is where each of its checks passes
-pub sound-passes : (cores : ℕ) (rows : List Row)
-    → SoundList cores rows ↔ Each (λ one. one .fails ≡ false) (listChecks cores rows)
-unfolding listFault faultFrom
-sound-passes cores rows = (
-  (λ sound. none-fails (listChecks cores rows) (fault-none (listChecks cores rows) (sound-list-means cores rows .1 sound))),
-  (λ passed. sound-list-means cores rows .0 (ap faultFrom (none-found (listChecks cores rows) passed))),
-)

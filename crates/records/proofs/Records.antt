@@ -8,6 +8,7 @@ use lib.Dec.{eqb}
 use lib.ListN.{length, getD}
 use native.Mathlib.Decide.{ℕ-discrete, decLe}
 use borrow.Author.Tests.{eq-eqb, ne-eqb, lt-ltb, le-ltb, eqb-true}
+use Rattle.laws.proofs.Tests.{not-one}
 use Rattle.records.specs.Bytes.{field}
 use Rattle.records.specs.Records.{boardKind, rowKind, endKind, recordLength, rowFields, wholeRecord, recordOn}
 use Rattle.records.specs.declared.Record.{Record}
@@ -148,8 +149,8 @@ missing-empty part e = go (recordOn part) (found part) e
   where
     go : (one : Record) → Found part one → one ≡ Missing → length part ≡ 0
     go one (nothing none) e = none
-    go one (unknown some none) e = let z : _≡_ {A = ℕ} 0 1 = cc in absurd (omega arith)
-    go one (cut some short) e = let z : _≡_ {A = ℕ} 0 1 = cc in absurd (omega arith)
-    go one (board kind long) e = let z : _≡_ {A = ℕ} 0 1 = cc in absurd (omega arith)
-    go one (row kind long) e = let z : _≡_ {A = ℕ} 0 1 = cc in absurd (omega arith)
-    go one (end kind long) e = let z : _≡_ {A = ℕ} 0 1 = cc in absurd (omega arith)
+    go one (unknown some none) e = absurd (not-one cc)
+    go one (cut some short) e = absurd (not-one cc)
+    go one (board kind long) e = absurd (not-one cc)
+    go one (row kind long) e = absurd (not-one cc)
+    go one (end kind long) e = absurd (not-one cc)

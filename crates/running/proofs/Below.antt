@@ -24,9 +24,6 @@ rows-below k cores table table′ start start′ same =
     let sound = opened-sound cores table start (same .opened-first) in
     let sound′ = opened-sound cores table′ start′ (same .opened-second) in (
       answer.rows-below cores k (rowsOf table) (rowsOf table′) sound sound′ (same .rows),
-      λ calls calls′ same-calls.
-          let run =
-          bench.rows-below k cores table table′ start start′ (same .opened-first) (same .opened-second)
-          (same .tall-first) (same .tall-second) (same .rows) calls calls′ same-calls in
-          record { instant = run .now; states = run .states; answers = run .heard },
+      bench.rows-below k cores table table′ start start′ (same .opened-first) (same .opened-second)
+          (same .tall-first) (same .tall-second) (same .rows),
     )

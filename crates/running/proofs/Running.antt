@@ -7,6 +7,7 @@ use mathlib.Core.Option.{Option, none, some}
 use native.Mathlib.Omega.{arith}
 use lib.ListN.{length, take}
 use Rattle.laws.proofs.Lists.{each-map}
+use Rattle.laws.proofs.Tests.{not-one}
 use Rattle.quantities.specs.Limits.{rowCapacity}
 use Rattle.quantities.specs.declared.Row.{Row}
 use Rattle.quantities.specs.declared.Table.{Table}
@@ -39,7 +40,7 @@ use Rattle.running.proofs.Calls.{InRun, run-after, run-steps}
 -- a release that came less than the bound ago
 pub less-ago : (now bound : ℕ) (last : Last) → isAt last ≡ true → now < instantOf last + bound
     → LessAgo now bound last
-less-ago now bound Never at h = let z : _≡_ {A = ℕ} 0 1 = cc in absurd (omega arith)
+less-ago now bound Never at h = absurd (not-one cc)
 less-ago now bound (At at) is h = h
 
 -- a refusal that is 21 on paper names its row

@@ -7,7 +7,8 @@ use mathlib.Core.Option.{none, some}
 use native.Mathlib.Omega.{arith}
 use lib.Dec.{eqb, ltb}
 use lib.ListN.{length}
-use borrow.Author.Tests.{ltb-true, ltb-false}
+use borrow.Author.Tests.{ltb-true}
+use Rattle.laws.proofs.Tests.{not-one}
 use Rattle.quantities.specs.Row.{cost, gap}
 use Rattle.bench.specs.declared.Last.{Last}
 use Rattle.bench.specs.declared.Last.the-variants.{Never, At}
@@ -17,6 +18,7 @@ use Rattle.bench.specs.declared.Refusal.the-variants.{NoPlace, Unfinished, TooS
 use Rattle.bench.specs.declared.Refusal.the-variants.{ClockEnd, BrokenRecord}
 use Rattle.bench.specs.Record.{rows, rowAt, stateAt, work, broken, lastInstant}
 use Rattle.bench.specs.Refusal.{test, firstRefusal, tooSoon, releaseTests, tickTests, refusalPaper}
+use Rattle.bench.proofs.Gaps.{gap-kept}
 use Rattle.bench.proofs.Permitted.{may-release}
 use Rattle.running.proofs.State.{isAt, instantOf, ever, came}
 use Rattle.running.proofs.Release.{Allowed}
@@ -38,7 +40,7 @@ pub last-failed : (place : ℕ) (t29 t20 t23 t22 t21 : Bool) (why : Refusal)
     → refusalPaper why .number ≡ 21 → (why ≡ Unfinished place) × ((t22 ≡ false) × (t21 ≡ true))
 unfolding firstRefusal refusalPaper
 last-failed p false false false false true why e n = (cc, (refl, refl))
-last-failed p false false false false false why e n = let z : _≡_ {A = ℕ} 0 1 = cc in absurd (omega arith)
+last-failed p false false false false false why e n = absurd (not-one cc)
 last-failed p false false false true t21 why e n = absurd (omega (arith, same-number why (TooSoon p) e n))
 last-failed p false false true t22 t21 why e n = absurd (omega (arith, same-number why (WrongDemand p) e n))
 last-failed p false true t23 t22 t21 why e n = absurd (omega (arith, same-number why (NoPlace p) e n))
@@ -47,9 +49,8 @@ last-failed p true t20 t23 t22 t21 why e n = absurd (omega (arith, same-number w
 -- a release that is not too soon keeps the gap
 pub gap-since : (now gap : ℕ) (last : Last) → tooSoon now gap last ≡ false → isAt last ≡ true
     → gap ≤ now - instantOf last
-unfolding tooSoon
-gap-since now gap Never e at = let z : _≡_ {A = ℕ} 0 1 = cc in absurd (omega arith)
-gap-since now gap (At at) e _ = ltb-false (now - at .0) gap e
+gap-since now gap Never e at = absurd (not-one cc)
+gap-since now gap (At at) e _ = gap-kept now gap at e
 
 -- What 21 means for the row at a place: it is the row named, the gap is kept, and there is work left.
 pub record UnfinishedAt (b : Bench) (place : ℕ) (why : Refusal) : Type 0 where
@@ -93,6 +94,6 @@ tick-refusal b = go (broken b) (eqb (b .now .0) lastInstant)
   where
     go : (t29 t24 : Bool) (why : Refusal)
         → firstRefusal (test BrokenRecord t29 ∷ test ClockEnd t24 ∷ []) ≡ some why → refusalPaper why .number ≡ 21 → ⊥
-    go false false why e n = let z : _≡_ {A = ℕ} 0 1 = cc in omega arith
+    go false false why e n = not-one cc
     go false true why e n = omega (arith, same-number why ClockEnd e n)
     go true t24 why e n = omega (arith, same-number why BrokenRecord e n)

@@ -10,7 +10,7 @@ use Rattle.windows.specs.Answer.{judged}
 use Rattle.windows.specs.Judgement.{SameDownTo}
 use Rattle.bench.specs.declared.Bench.{Bench}
 use Rattle.bench.specs.Step.{opened}
-use Rattle.bench.specs.History.{Call, after, callsTo, heard}
+use Rattle.bench.specs.History.{Call, callsTo, SameRun}
 
 -- Two benches that were opened for as many cores, for tables that have the same rows down to place k.
 pub record SameRows (k cores : ℕ) (table table′ : Table) (start start′ : Bench) : Type 0 where
@@ -19,13 +19,6 @@ pub record SameRows (k cores : ℕ) (table table′ : Table) (start start′ : B
   pub tall-first : k ≤ length (rowsOf table)
   pub tall-second : k ≤ length (rowsOf table′)
   pub rows : take k (rowsOf table) ≡ take k (rowsOf table′)
-
--- Two histories are the same for the rows down to place k: the instant, their states, and each answer to a
--- tick or to a release of theirs.
-pub record SameRun (k : ℕ) (start start′ : Bench) (calls calls′ : List Call) : Type 0 where
-  pub instant : after start calls .now .0 ≡ after start′ calls′ .now .0
-  pub states : take k (after start calls .states) ≡ take k (after start′ calls′ .states)
-  pub answers : heard k start calls ≡ heard k start′ calls′
 
 -- Down to place k the answers are the same, bounds and the place named, and so are histories with the same ticks and
 -- releases there.

@@ -12,6 +12,7 @@ use Rattle.laws.specs.Each.{Each}
 use Rattle.laws.specs.Member.{Member}
 use Rattle.laws.specs.Permuted.{Permuted, as-is, keep, swap, both}
 use Rattle.laws.proofs.Permuted.{permuted-back, permuted-length, permuted-member}
+use Rattle.laws.proofs.Lists.{each-member}
 use Rattle.sheet.specs.Entries.{used, inserted, Rising}
 use Rattle.sheet.specs.declared.Entry.{Entry}
 use Rattle.sheet.proofs.Entries.{used-below}
@@ -89,11 +90,6 @@ inserted-rising new (x ∷ entries) r u =
         (each-inserted (λ y. x .priority < y .priority) new entries (omega arith) (r .0), q)
 
 -- Rising entries have one order only.
-each-member : (P : Entry → Type 0) (a : Entry) (entries : List Entry) → Each P entries → Member a entries → P a
-each-member P a [] e m = absurd m
-each-member P a (x ∷ entries) e m =
-    ⊎-elim (λ (q : a ≡ x). rw q (e .0)) (λ t. each-member P a entries (e .1) t) m
-
 first-same : (x y : Entry) (xs ys : List Entry) → Rising (x ∷ xs) → Rising (y ∷ ys) → Member x (y ∷ ys) → Member y (x ∷ xs) → x ≡ y
 first-same x y xs ys r s m n =
     ⊎-elim

@@ -26,10 +26,6 @@ module _ (cores : ℕ) (tick : Micros) where
   unfolding sheetOf
   count-of-sheet entries = refl
 
-  pub tick-of-sheet : (entries : List Entry) → sheetOf cores tick entries .tick ≡ tick
-  unfolding sheetOf
-  tick-of-sheet entries = refl
-
   -- past the entries and one more, one place less is left
   room-left : (entries : List Entry) → length entries < rowCapacity
       → drop (length entries + 1) (entries ++ replicate (rowCapacity - length entries) noEntry) ≡ replicate (rowCapacity - suc (length entries)) noEntry

@@ -6,6 +6,7 @@ use mathlib.Core.Logic.{⊎-elim}
 use mathlib.Core.List.{List, _++_}
 use mathlib.Core.Option.{Option, none, some}
 use lib.ListN.{length, take, length-append}
+use Rattle.laws.proofs.Tests.{not-one}
 use Rattle.quantities.specs.Limits.{rowCapacity}
 use Rattle.quantities.specs.Table.{rowsOf}
 use Rattle.quantities.specs.Checks.{listFault, SoundList}
@@ -47,19 +48,19 @@ module _ (M : ℕ) (rows : List Row) where
   pub shown-counts : judged M rows .answer ≡ Shown
       → (length (judged M rows .bounds) ≡ length rows) × (length rows ≤ rowCapacity)
   shown-counts e =
-      let sound = answered (λ fault q. let z : _≡_ {A = ℕ} 0 1 = cc in omega arith) in
+      let sound = answered (λ fault q. not-one cc) in
       ⊎-elim
       (λ (all : AllShown rows (judged M rows)). (all .each, sound .few-rows))
-      (λ (none : FirstNotShown M rows (judged M rows)). let z : _≡_ {A = ℕ} 0 1 = cc (none .says) in absurd (omega arith))
+      (λ (none : FirstNotShown M rows (judged M rows)). absurd (not-one (cc (none .says))))
       (judged-means M rows sound .ends)
 
   -- a row not shown: the one behind those with bounds
   pub not-shown-counts : (number place : ℕ) → judged M rows .answer ≡ NotShown number place
       → (place ≡ suc (length (judged M rows .bounds))) × (length (judged M rows .bounds) < rowCapacity)
   not-shown-counts number place e =
-      let sound = answered (λ fault q. let z : _≡_ {A = ℕ} 0 1 = cc in omega arith) in
+      let sound = answered (λ fault q. not-one cc) in
       ⊎-elim
-      (λ (all : AllShown rows (judged M rows)). let z : _≡_ {A = ℕ} 0 1 = cc (all .says) in absurd (omega arith))
+      (λ (all : AllShown rows (judged M rows)). absurd (not-one (cc (all .says))))
       (λ (none : FirstNotShown M rows (judged M rows)).
       let same : NotShown number place ≡ NotShown lateNumber (suc (length (judged M rows .bounds))) =
       sym e ∙ none .says in

@@ -1,10 +1,11 @@
 -- What `window` means: the least window that passes in document 01's words, or none where no window passes.
-use Prim.Native.Nat.{ℕ, _≤_}
+use Prim.Native.Nat.{ℕ, suc, _≤_}
 use mathlib.Core.Path.{_≡_, refl}
 use mathlib.Core.Logic.{_↔_, Iff·trans, Iff·symm}
 use mathlib.Core.List.{List, [], _∷_}
 use mathlib.Core.Option.{Option, none, some}
 use native.Mathlib.Omega.{arith}
+use lib.ListN.{length}
 use Rattle.quantities.specs.declared.Row.{Row}
 use Rattle.quantities.specs.Row.{cost, deadline, gap}
 use Rattle.windows.specs.Window.{limit}
@@ -59,3 +60,14 @@ bounds-stop M above row rows no-bound = rw (no-bound, boundsBelow) refl
 pub bounds-end : (M : ℕ) (above : List Bounded) → boundsBelow M above [] ≡ []
 unfolding boundsBelow
 bounds-end M above = refl
+
+-- there are no more bounds than rows
+pub bounds-few : (M : ℕ) (above : List Bounded) (rows : List Row) → length (boundsBelow M above rows) ≤ length rows
+unfolding boundsBelow
+bounds-few M above [] = omega arith
+bounds-few M above (row ∷ rows) = go (boundOf M above row) (λ b. bounds-few M (bounded row b ∷ above) rows)
+  where
+    go : (found : Option ℕ) → ((b : ℕ) → length (boundsBelow M (bounded row b ∷ above) rows) ≤ length rows)
+        → length {A = ℕ} (elim found [ none ↦ [] | some b ↦ b ∷ boundsBelow M (bounded row b ∷ above) rows ]) ≤ suc (length rows)
+    go none below = omega arith
+    go (some b) below = omega (arith, below b)

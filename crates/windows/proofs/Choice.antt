@@ -57,7 +57,7 @@ total-le-most (l ∷ ls) (true ∷ choice) zero few = absurd (omega arith)
 total-le-most (l ∷ ls) (true ∷ choice) (suc m) few = omega (arith, total-le-most ls choice m (omega arith))
 
 -- a load for each row
-length-loads : (own x : ℕ) (above : List Bounded) → length (loads own x above) ≡ length above
+pub length-loads : (own x : ℕ) (above : List Bounded) → length (loads own x above) ≡ length above
 length-loads own x [] = refl
 length-loads own x (b ∷ above) = ap suc (length-loads own x above)
 
@@ -100,12 +100,6 @@ unfolding most
 most-mono m Forall₂·nil = omega arith
 most-mono zero (Forall₂·cons h t) = omega (arith, most-mono zero t)
 most-mono (suc m) (Forall₂·cons h t) = omega (arith, most-mono m t, most-mono (suc m) t)
-
--- with a budget of 0 no row carries in: the rows take the sum of what each takes without
-pub most-zero : (ls : List Load) → most ls 0 ≡ total ls []
-unfolding most
-most-zero [] = refl
-most-zero (l ∷ ls) = ap (λ rest. l .without + rest) (most-zero ls)
 
 -- a larger budget takes no less
 pub most-suc : (ls : List Load) (m : ℕ) → most ls m ≤ most ls (suc m)

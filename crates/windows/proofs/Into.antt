@@ -8,6 +8,7 @@ use mathlib.Core.List.{List, []}
 use mathlib.Core.Option.{Option, none, some}
 use lib.Dec.{eqb}
 use lib.ListN.{length}
+use Rattle.laws.proofs.Tests.{not-one}
 use Rattle.quantities.specs.Checks.{listFault, lentFault, SoundList}
 use Rattle.quantities.specs.declared.Row.{Row}
 use Rattle.quantities.specs.declared.Fault.{Fault}
@@ -54,8 +55,8 @@ refused-fault none M rows fault e = absurd (searched (eqb (length (boundsBelow M
         (elim all [ true ↦ Shown | false ↦ NotShown lateNumber (suc (length (boundsBelow M [] rows))) ])
         (Refused fault)
         → ⊥
-    searched true e = let z : _≡_ {A = ℕ} 0 1 = cc in omega arith
-    searched false e = let z : _≡_ {A = ℕ} 0 1 = cc in omega arith
+    searched true e = not-one cc
+    searched false e = not-one cc
 
 -- a sound list has at most a bound for each row
 pub few-bounds : (M : ℕ) (rows : List Row) → SoundList M rows → length (judged M rows .bounds) ≤ length rows

@@ -1,14 +1,19 @@
 -- The answer to a sound list is its literal reading, and no other answer is.
-use Prim.Native.Nat.{ℕ, zero, suc, _<_}
+use Prim.Native.Nat.{ℕ, zero, suc, _≤_, _<_}
 use native.Mathlib.Omega.{arith}
+use native.Mathlib.Decide.{ℕ-discrete}
+use mathlib.Core.Bool.{Bool, true, false}
 use mathlib.Core.Path.{_≡_, refl, ap, sym, subst, subst⁻¹, _∙_}
 use mathlib.Core.Logic.{_⊎_, inl, inr, ⊎-elim}
 use mathlib.Core.List.{List, [], _∷_}
 use mathlib.Core.Option.{Option, none, some}
+use lib.Dec.{eqb}
 use lib.ListN.{length, getD}
-use borrow.Author.Tests.{eq-eqb, ne-eqb}
+use borrow.Author.Tests.{eq-eqb, ne-eqb, eqb-true}
+use Rattle.laws.proofs.Tests.{not-one}
 use Rattle.quantities.specs.Row.{cost, deadline}
 use Rattle.quantities.specs.Checks.{SoundList, listFault}
+use Rattle.quantities.specs.Paper.{faultPaper}
 use Rattle.quantities.specs.declared.Row.{Row}
 use Rattle.quantities.specs.declared.Fault.{Fault}
 use Rattle.quantities.proofs.Sound.{sound-list-means}
@@ -61,6 +66,11 @@ aboveOn above rows bounds (suc k) = bounded (rowOfIndex rows k) (getD bounds k 0
 above-on : (rows : List Row) (bounds : List ℕ) (k : ℕ) → aboveOn [] rows bounds k ≡ aboveIndex rows bounds k
 above-on rows bounds zero = refl
 above-on rows bounds (suc k) = rw (above-on rows bounds k)
+
+-- there are as many rows above an index as it says
+pub length-above : (rows : List Row) (bounds : List ℕ) (k : ℕ) → length (aboveIndex rows bounds k) ≡ k
+length-above rows bounds zero = refl
+length-above rows bounds (suc k) = ap suc (length-above rows bounds k)
 
 -- one row further down
 above-next : (above : List Bounded) (row : Row) (rows : List Row) (b : ℕ) (bounds : List ℕ) (k : ℕ)
@@ -137,6 +147,43 @@ pub verdict-short : (count : ℕ) (bounds : List ℕ) → (length bounds ≡ cou
     → verdict count bounds ≡ record { answer = NotShown lateNumber (suc (length bounds)); bounds = bounds }
 unfolding verdict
 verdict-short count bounds e = rw (ne-eqb (length bounds) count e, verdict) refl
+
+-- how many bounds a verdict has, by its answer
+pub verdict-shown : (count : ℕ) (bounds : List ℕ) → verdict count bounds .answer ≡ Shown → length bounds ≡ count
+unfolding verdict
+verdict-shown count bounds = go (eqb (length bounds) count) refl
+  where
+    go : (t : Bool) → eqb (length bounds) count ≡ t → verdict count bounds .answer ≡ Shown → length bounds ≡ count
+    go true q e = eqb-true (length bounds) count q
+    go false q e = absurd (not-one (cc (rw (q, verdict) at e)))
+
+pub verdict-not-shown : (count number place : ℕ) (bounds : List ℕ)
+    → verdict count bounds .answer ≡ NotShown number place → suc (length bounds) ≡ place
+unfolding verdict
+verdict-not-shown count number place bounds = go (eqb (length bounds) count) refl
+  where
+    go : (t : Bool) → eqb (length bounds) count ≡ t → verdict count bounds .answer ≡ NotShown number place
+        → suc (length bounds) ≡ place
+    go true q e = absurd (not-one (cc (rw (q, verdict) at e)))
+    go false q e = cc (rw (q, verdict) at e)
+
+pub verdict-not-refused : (count : ℕ) (bounds : List ℕ) (fault : Fault) → verdict count bounds .answer ≡ Refused fault → ⊥
+unfolding verdict
+verdict-not-refused count bounds fault = go (eqb (length bounds) count) refl
+  where
+    go : (t : Bool) → eqb (length bounds) count ≡ t → verdict count bounds .answer ≡ Refused fault → ⊥
+    go true q e = not-one (cc (rw (q, verdict) at e))
+    go false q e = not-one (cc (rw (q, verdict) at e))
+
+-- the place that a verdict names is at most one past the bounds
+pub verdict-place : (count : ℕ) (bounds : List ℕ)
+    → answerPaper (verdict count bounds .answer) .place ≤ suc (length bounds)
+unfolding answerPaper faultPaper
+verdict-place count bounds =
+    elim (ℕ-discrete (length bounds) count) [
+      | yes e ↦ rw (verdict-all count bounds e) (omega arith)
+      | no e ↦ rw (verdict-short count bounds e) (omega arith)
+    ]
 
 -- the bounds of a walk with their verdict are a judgement
 verdict-means : (M : ℕ) (rows : List Row) (bounds : List ℕ) → Walk M [] rows bounds

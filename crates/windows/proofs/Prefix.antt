@@ -9,6 +9,7 @@ use mathlib.Core.Option.{Option, none, some}
 use lib.Dec.{eqb}
 use lib.ListN.{length, take, length-take}
 use borrow.Author.Tests.{eqb-true, eqb-false}
+use Rattle.laws.proofs.Tests.{not-one}
 use Rattle.quantities.specs.Checks.{SoundList}
 use Rattle.quantities.specs.declared.Row.{Row}
 use Rattle.windows.specs.Choice.{Bounded, bounded}
@@ -52,10 +53,7 @@ verdict-named count bounds number place = go (eqb (length bounds) count) refl
     go : (t : Bool) → eqb (length bounds) count ≡ t
         → (verdict count bounds .answer ≡ NotShown number place) ↔ Named count bounds number place
     go true q = (
-      λ e.
-          let f : Shown ≡ NotShown number place = rw (q, verdict) at e in
-          let z : _≡_ {A = ℕ} 0 1 = cc in
-          absurd (omega arith),
+      λ e. let f : Shown ≡ NotShown number place = rw (q, verdict) at e in absurd (not-one cc),
       λ both. absurd (both .0 (eqb-true (length bounds) count q)),
     )
     go false q = (

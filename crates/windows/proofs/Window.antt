@@ -1,9 +1,9 @@
 -- The laws of the window formulas: no polls do more work in a window, how they grow, how large they get.
 use Prim.Native.Nat.{ℕ, suc, _+_, _-_, _*_, _/_, _%_, _≤_, _<_, min, max}
-use mathlib.Core.Path.{_≡_, ap}
+use mathlib.Core.Path.{_≡_}
 use native.Mathlib.Decide.{decLe}
-use native.Mathlib.Nat.{div-add-mod', mod-lt, mul-div-left, mul-mod-left}
-use native.Mathlib.Nat.{le-refl, le-dest, add-le-add, add-sub-of-le}
+use native.Mathlib.Nat.{div-add-mod', mod-lt}
+use native.Mathlib.Nat.{le-refl, le-dest, add-le-add}
 use native.Mathlib.Omega.{arith}
 use Rattle.laws.proofs.Numbers.{div-mul-add-mod-le, stairs}
 use Rattle.windows.specs.Window.{plain, carry, limit, interference}
@@ -22,21 +22,11 @@ plain-runs c t j s b x h bc bs le =
     stairs t c j s b (x / t) (x % t) (min (x % t) c) (mod-lt x h)
     (omega (arith, div-add-mod' x t)) bc (λ k. omega arith)
 
--- the same with the most that can have run
-pub plain-releases : (c t j x : ℕ) → 0 < t → j * t ≤ x → j * c + min c (x - j * t) ≤ plain c t x
-plain-releases c t j x h le =
-    plain-runs c t j (x - j * t) (min c (x - j * t)) x h (omega arith) (omega arith) (omega arith)
-
 pub plain-mono : (c t x y : ℕ) → 0 < t → x ≤ y → plain c t x ≤ plain c t y
 unfolding plain
 plain-mono c t x y h le =
     plain-runs c t (x / t) (x % t) (min (x % t) c) y h
     (omega arith) (omega arith) (omega (arith, div-add-mod' x t))
-
--- n whole gaps hold n polls
-pub plain-whole : (c t n : ℕ) → 0 < t → plain c t (n * t) ≡ n * c
-unfolding plain
-plain-whole c t n h = rw (mul-div-left n h, mul-mod-left n t) (omega arith)
 
 -- a row works no more ticks than the window has
 pub plain-le-window : (c t x : ℕ) → c ≤ t → plain c t x ≤ x
@@ -87,15 +77,6 @@ carry-runs c t r e a j s b x ct rt ac ae bc bs le =
         let k = carry-reach c t r j (s + t + t - c - e) (a + b) x (omega arith) rt
         (omega arith) (omega arith) (λ l. omega arith) (omega arith) in
         omega arith
-
--- the same with the most that can have been carried and run, and with n polls released in the window
-pub carry-releases : (c t r e n x : ℕ) → 1 ≤ c → c ≤ r → r ≤ t → 1 ≤ e → e ≤ r → 1 ≤ n → n * t ≤ x + e
-    → min (c - 1) (r - e) + (n - 1) * c + min c (x + e - n * t) ≤ carry c t r x
-carry-releases c t r e n x c1 cr rt e1 er n1 le =
-    let s = x + e - n * t in
-    let gaps = ap (λ i. i * t) (add-sub-of-le n1) in
-    carry-runs c t r e (min (c - 1) (r - e)) (n - 1) s (min c s) x (omega arith) rt (omega arith)
-    (omega arith) (omega arith) (omega arith) (omega arith)
 
 -- one poll is always within it
 pub cost-le-carry : (c t r x : ℕ) → c ≤ carry c t r x

@@ -2,16 +2,14 @@
 use Prim.Native.Nat.{ℕ, _+_, _-_, _≤_, _<_}
 use native.Mathlib.Omega.{arith}
 use native.Mathlib.Numerals.{add-one}
-use mathlib.Core.Path.{_≡_, ap, _∙_}
+use mathlib.Core.Path.{_≡_, sym, ap, _∙_}
 use mathlib.Core.List.{List, []}
 use mathlib.Core.Logic.{⊎-elim}
-use lib.ListN.{length, getD, set, length-map, List·getD-map}
+use lib.ListN.{length, getD, length-map, List·getD-map}
 use borrow.Author.Needs.{needs}
-use borrow.Author.Tests.{lt-ltb, le-ltb}
-use Rattle.quantities.specs.Limits.{rowCapacity}
 use Rattle.quantities.specs.Table.{withRow, emptyTable}
-use Rattle.quantities.specs.declared.Row.{Row}
 use Rattle.quantities.specs.declared.Table.{Table}
+use Rattle.quantities.proofs.Rows.{with-row-fits, with-row-full}
 use Rattle.lentrows.specs.Loaded.{loaded, tableOf}
 use Rattle.exports.specs.Exported.{rowFrom, rowsFrom}
 use Rattle.exports.proofs.load.Statement.{statement}
@@ -40,18 +38,6 @@ loading-all : (rows : List (List ℕ)) (table : Table) (i : ℕ) → length rows
 loading-all rows table i over now =
     let all : i ≡ length (rowsFrom rows) = omega (arith, length-map rows rowFrom) in
     now .holds ∙ ap (λ k. loaded k (rowsFrom rows)) all
-
--- what the code leaves is the table with the row: put in place while there is room, else counted as one too many
-module _ (table next : Table) (row : Row) where
-  row-kept : table .count < rowCapacity
-      → next ≡ record { count = table .count + 1; rows = set (table .rows) (table .count) row } → next ≡ withRow table row
-  unfolding withRow
-  row-kept h e = rw (lt-ltb (table .count) rowCapacity h) e
-
-  row-counted : rowCapacity ≤ table .count
-      → next ≡ record { count = rowCapacity + 1; rows = table .rows } → next ≡ withRow table row
-  unfolding withRow
-  row-counted h e = rw (le-ltb (table .count) rowCapacity h) e
 
 abbrev Inv-loop : tie.InvT-loop
 Inv-loop rows table₀ i₀ table i = Loading rows table i
@@ -103,7 +89,8 @@ loop-again c =
     let rows = c .before .before .before .before .before .args .rows .now in
     let at = c .before .before .before .loop in
     loading-next rows (at .table) (c .if1 .table) (at .i) (omega arith) (at .inv)
-    (⊎-elim (λ w. row-kept (at .table) (c .if1 .table) _ (w .0 .taken) (w .1)) (λ w. row-counted (at .table) (c .if1 .table) _ (w .0 .left) (w .1)) (c .if1 .came))
+    (⊎-elim (λ w. w .1 ∙ sym (with-row-fits (at .table) _ (w .0 .taken)))
+    (λ w. w .1 ∙ sym (with-row-full (at .table) _ (w .0 .left))) (c .if1 .came))
 
 returns : tie.Need-returns Inv-loop μ-loop
 returns c =
