@@ -4,12 +4,12 @@ use native.Mathlib.Omega.{arith}
 use native.Mathlib.Nat.{le-refl}
 use native.Mathlib.Numerals.{add-one}
 use mathlib.Core.Path.{_≡_, refl, sym, ap, ap₂, subst⁻¹, _∙_}
-use mathlib.Core.List.{List, [], _∷_, _++_, map, map-map, map-id, append-nil}
+use mathlib.Core.List.{List, [], _∷_, _++_, append-nil}
 use mathlib.Core.Option.{Option, none, some}
-use lib.ListN.{length, take, drop, set, replicate, length-take, length-map, length-set, take-append-drop}
+use lib.ListN.{length, take, drop, set, replicate, length-take, length-map, length-set}
 use lib.Seq.{drop-cons, take-suc-set, drop-set-lt, drop-drop, getD-set-same, getD-set-other, append-snoc}
 use Rattle.laws.specs.Each.{Each}
-use Rattle.laws.proofs.Lists.{map-take, map-set}
+use Rattle.laws.proofs.Lists.{map-set}
 use Rattle.laws.proofs.Tests.{not-one}
 use Rattle.quantities.specs.Limits.{rowCapacity}
 use Rattle.quantities.specs.Row.{SoundRow, noRow}
@@ -19,6 +19,7 @@ use Rattle.quantities.specs.declared.Row.{Row}
 use Rattle.quantities.specs.declared.Table.{Table}
 use Rattle.quantities.specs.declared.Ticks.{Ticks}
 use Rattle.quantities.proofs.Rows.{length-rows, rows-end}
+use Rattle.quantities.proofs.Lengths.{array-holds}
 use Rattle.windows.specs.Choice.{Bounded, bounded, InRange}
 use Rattle.windows.specs.Bound.{boundOf, boundsBelow}
 use Rattle.windows.specs.Answer.{lateNumber, verdict}
@@ -53,18 +54,6 @@ above-kept : (rows : List Row) (bounds : List ℕ) (k i b : ℕ) → k ≤ i →
 above-kept rows bounds zero i b h = refl
 above-kept rows bounds (suc k) i b h =
     rw (getD-set-other bounds i k b 0 (λ same. omega arith), above-kept rows bounds k i b (omega arith)) refl
-
--- the array whose entries from i on are 0 holds the first i bounds
-ticks-numbers : (bounds : List Ticks) → map ticks (numbers bounds) ≡ bounds
-ticks-numbers bounds = map-map ticks (λ (t : Ticks). t .0) bounds ∙ map-id bounds
-
-array-holds : (bounds : List Ticks) (i : ℕ) → i ≤ length bounds → drop i bounds ≡ replicate (rowCapacity - i) (ticks 0)
-    → inArray (take i (numbers bounds)) ≡ bounds
-unfolding inArray
-array-holds bounds i low blank =
-    let long : length (take i (numbers bounds)) ≡ i =
-    length-take i (numbers bounds) ∙ omega (arith, length-map bounds (λ (t : Ticks). t .0)) in
-    rw (long, ← blank, map-take ticks i (numbers bounds), ticks-numbers bounds) (take-append-drop i bounds)
 
 module _ (cores : ℕ) (table : Table) (bounds : List Ticks) (i : ℕ)
     (so : SoFar cores table bounds i) where

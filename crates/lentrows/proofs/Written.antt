@@ -10,10 +10,10 @@ use Rattle.quantities.specs.Limits.{rowCapacity}
 use Rattle.quantities.specs.Lengths.{numbers}
 use Rattle.quantities.specs.declared.Row.{Row}
 use Rattle.quantities.specs.declared.Ticks.{Ticks}
+use Rattle.quantities.proofs.Lengths.{found-are}
 use Rattle.windows.specs.Answer.{Judged, judgedInto, boundsAfter}
 use Rattle.lentrows.specs.Lent.{LentAnalysis, firstOf, toldOf}
 use Rattle.lentrows.specs.declared.Told.{Told}
-use Rattle.lentrows.proofs.Counted.{found-are}
 use Rattle.lentrows.proofs.Lent.{bounds-fit}
 
 module _ {A : Type 0} where

@@ -18,6 +18,7 @@ use Rattle.quantities.specs.Lengths.{numbers, inArray}
 use Rattle.quantities.proofs.Checks.{lent-fault-list, lent-fault-short}
 use Rattle.quantities.proofs.Paper.{fault-first}
 use Rattle.quantities.proofs.Sound.{sound-list-means}
+use Rattle.quantities.proofs.Lengths.{numbers-in-array}
 use Rattle.windows.specs.declared.Answer.{Answer}
 use Rattle.windows.specs.Answer.{Judged, judged, judgedInto, boundsAfter, answerPaper}
 use Rattle.windows.proofs.Into.{into-refused, into-room, refused-fault, few-bounds}
@@ -25,7 +26,6 @@ use Rattle.analysis.specs.Analysis.{analysisOf}
 use Rattle.windows.proofs.Judgement.{judged-faulty}
 use Rattle.lentrows.specs.Lent.{toldOf}
 use Rattle.lentrows.proofs.Lent.{bounds-fit}
-use Rattle.lines.proofs.Lines.{numbers-in-array}
 use Rattle.promises.specs.Lists.{lentOrder, faultAt, ListInRange}
 use Rattle.promises.specs.Lent.{
   lent,

@@ -4,3 +4,4 @@ pub mod Sound
 pub mod SoundRows
 pub mod Paper
 pub mod Rows
+pub mod Lengths
