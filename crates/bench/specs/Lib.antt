@@ -5,6 +5,7 @@ pub mod Serving
 pub mod Ended
 pub mod Step
 pub mod History
+pub mod Computing
 pub mod TickRule
 pub mod Rules
 pub mod Fakes

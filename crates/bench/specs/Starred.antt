@@ -5,19 +5,15 @@ use mathlib.Core.List.{List, [], _∷_}
 use mathlib.Core.Option.{Option, none, some}
 use Rattle.laws.specs.Each.{Each}
 use Rattle.quantities.specs.Row.{rowOf}
-use Rattle.quantities.specs.Table.{rowsOf, emptyTable, withRow}
-use Rattle.quantities.specs.Checks.{rowChecks, rowsChecks, listChecks, firstFailing, faultFrom, listFault}
+use Rattle.quantities.specs.Table.{emptyTable, withRow}
 use Rattle.quantities.specs.declared.Table.{Table}
 use Rattle.bench.specs.declared.Bench.{Bench}
 use Rattle.bench.specs.declared.Finish.{Finish}
 use Rattle.bench.specs.declared.Outcome.{Outcome}
 use Rattle.bench.specs.declared.Outcome.the-variants.{Taken}
-use Rattle.bench.specs.Record.{lastBroken, rowBroken, rowsBroken, isFault, broken}
-use Rattle.bench.specs.Refusal.{firstRefusal, tooSoon, releaseTests, tickTests}
-use Rattle.bench.specs.Serving.{unit, units, less, worked, ends, since, finishOf, finished}
-use Rattle.bench.specs.Step.{emptyBench, openedAfter, opened, Step, unless, started, release}
-use Rattle.bench.specs.Step.{served, moved, taken, tick}
+use Rattle.bench.specs.Step.{opened, Step}
 use Rattle.bench.specs.History.{Call, releases, ticks, after, steps}
+use Rattle.bench.specs.Computing.{bench-computes}
 
 -- the board of the case, on one core
 abbrev board : Table
@@ -83,8 +79,5 @@ claims =
     ∷ []
 
 pub starred : Each (λ claim. claim) claims
-unfolding caseEnded allEnded opened openedAfter emptyBench steps release tick unless started taken served
-    moved broken rowsBroken rowBroken lastBroken isFault firstRefusal tooSoon releaseTests tickTests unit
-    units less worked ends since finishOf finished rowsOf emptyTable withRow rowChecks rowsChecks listChecks
-    firstFailing faultFrom listFault
+unfolding bench-computes caseEnded allEnded
 starred = (refl, tt)

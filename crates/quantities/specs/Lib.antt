@@ -5,3 +5,4 @@ pub mod Lengths
 pub mod Table
 pub mod Checks
 pub mod Paper
+pub mod Computing

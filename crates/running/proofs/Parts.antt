@@ -10,33 +10,20 @@ use Rattle.quantities.specs.declared.Row.{Row}
 use Rattle.quantities.specs.declared.Table.{Table}
 use Rattle.quantities.specs.Row.{cost, deadline, rowOf, noRow}
 use Rattle.quantities.specs.Table.{rowsOf}
-use Rattle.quantities.specs.Checks.{rowChecks, rowsChecks, listChecks, firstFailing, faultFrom, listFault}
-use Rattle.windows.specs.Window.{plain, carry, limit, interference}
-use Rattle.windows.specs.Choice.{Bounded, bounded, load, loads, most, passes}
-use Rattle.windows.specs.Least.{firstOf, least}
+use Rattle.windows.specs.Window.{carry, limit, interference}
+use Rattle.windows.specs.Choice.{Bounded, bounded, load, loads, passes}
+use Rattle.windows.specs.Least.{least}
 use Rattle.windows.specs.Bound.{window, boundsBelow}
 use Rattle.windows.specs.Answer.{Judged, verdict}
 use Rattle.windows.proofs.Judgement.{judged-sound}
 use Rattle.bench.specs.declared.Bench.{Bench}
 use Rattle.bench.specs.declared.Finish.{Finish}
-use Rattle.bench.specs.Record.{lastBroken, rowBroken, rowsBroken, isFault, broken}
-use Rattle.bench.specs.Refusal.{firstRefusal, tooSoon, releaseTests, tickTests}
-use Rattle.bench.specs.Serving.{unit, units, workers, less, worked, ends, since, finishOf, finished}
+use Rattle.bench.specs.Serving.{workers, ends}
 use Rattle.bench.specs.Fakes.{idled, once, invented, inventing}
-use Rattle.bench.specs.Step.{
-  Step,
-  emptyBench,
-  openedAfter,
-  opened,
-  unless,
-  started,
-  release,
-  served,
-  moved,
-  taken,
-  tick,
-}
+use Rattle.bench.specs.Step.{Step, emptyBench, opened}
 use Rattle.bench.specs.History.{Call, releases, ticks, doCall, after, steps}
+use Rattle.windows.specs.Computing.{answers-compute}
+use Rattle.bench.specs.Computing.{bench-computes}
 use Rattle.running.specs.Running.{boundsOf, boundAt, OverInTime, EndsInTime, NotUnfinished}
 use Rattle.running.specs.Parts.{
   Parts,
@@ -132,8 +119,7 @@ abbrev start : Bench
 start = emptyBench 2 board
 
 is-opened : opened 2 board ≡ some start
-unfolding rowsOf rowChecks rowsChecks listChecks firstFailing faultFrom listFault emptyBench openedAfter
-    opened
+unfolding bench-computes
 is-opened = refl
 
 abbrev poll : (place response : ℕ) → Finish
@@ -207,11 +193,8 @@ a & b = (a, b)
 
 -- Each part is needed: with one of them changed, the promise is false.
 pub each-part-needed : EachPartNeeded
-unfolding rowsOf rowChecks rowsChecks listChecks firstFailing faultFrom listFault lastBroken rowBroken
-    rowsBroken isFault broken firstRefusal tooSoon releaseTests tickTests unit units workers less worked
-    ends since finishOf finished emptyBench unless started release served moved taken tick idled once invented
-    inventing idling early
-    afterBy plain limit most firstOf least carryBy passesBy boundsBy
+unfolding answers-compute bench-computes workers idled once invented inventing idling early afterBy carryBy passesBy
+    boundsBy
 each-part-needed =
     late _ carries-in 4 4 (1 ∷ 1 ∷ 3 ∷ 4 ∷ []) [] refl refl (omega arith) (omega arith) (omega arith)
     & late _ carries-in 4 4 (1 ∷ 1 ∷ 2 ∷ 1 ∷ []) [] refl refl (omega arith) (omega arith) (omega arith)

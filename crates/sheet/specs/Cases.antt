@@ -5,31 +5,11 @@ use mathlib.Core.List.{List, [], _∷_, _++_}
 use lib.ListN.{replicate}
 use Rattle.quantities.specs.Row.{rowOf}
 use Rattle.quantities.specs.declared.Row.{Row}
-use Rattle.records.specs.Bytes.{numberAfter, field}
-use Rattle.records.specs.Records.{recordLength, rowFields, wholeRecord, recordOn, kindOf, isEnd}
-use Rattle.sheet.specs.Entries.{
-  ticksOf,
-  entryOf,
-  noEntry,
-  boardSheet,
-  entriesOf,
-  used,
-  inserted,
-  withEntry,
-}
-use Rattle.sheet.specs.Checks.{misplaced, boardChecks, rowChecks, endChecks, recordChecks, verdictOf}
-use Rattle.sheet.specs.Reader.{noSheet, newReading, afterRecord, refused, whole, readFrom, readOf}
-use Rattle.quantities.specs.Checks.{firstFailing}
+use Rattle.sheet.specs.Entries.{noEntry}
+use Rattle.sheet.specs.Reader.{refused, whole, readOf}
+use Rattle.sheet.specs.Computing.{sheets-compute}
 use Rattle.sheet.specs.declared.Entry.{Entry}
 use Rattle.sheet.specs.declared.Verdict.the-variants.{Sound}
-use Rattle.sheet.specs.declared.Outcome.{Outcome}
-
--- the answer of a sheet, with all that it rests on opened so that it computes
-unfoldable answer : List ℕ → Outcome
-unfolding readOf readFrom newReading noSheet boardSheet recordOn recordLength kindOf isEnd wholeRecord
-    rowFields field numberAfter recordChecks misplaced boardChecks rowChecks endChecks verdictOf firstFailing
-    afterRecord withEntry inserted entriesOf entryOf ticksOf used whole refused
-answer sheet = readOf sheet
 
 abbrev entry : ℕ → ℕ → Row → Entry
 entry priority label row = record { priority = priority; label = label; row = row }
@@ -48,7 +28,7 @@ abbrev second : List ℕ
 second = 2 ∷ 0 ∷ 102 ∷ 0 ∷ 2 ∷ 0 ∷ 0 ∷ 1 ∷ 44 ∷ 0 ∷ 0 ∷ 3 ∷ 32 ∷ 0 ∷ 0 ∷ 3 ∷ 32 ∷ []
 
 -- the sheet of document 01: 2 comes before 10
-sheet-of-document : answer (board ++ first ++ tenth ++ second ++ (3 ∷ 3 ∷ [])) ≡
+sheet-of-document : readOf (board ++ first ++ tenth ++ second ++ (3 ∷ 3 ∷ [])) ≡
     whole
     (record {
       cores = 2;
@@ -60,55 +40,55 @@ sheet-of-document : answer (board ++ first ++ tenth ++ second ++ (3 ∷ 3 ∷ []
           ∷ entry 10 110 (rowOf 2 4 10)
           ∷ replicate 29 noEntry;
     })
-unfolding answer
+unfolding sheets-compute
 sheet-of-document = refl
 
 -- no byte; an end record first; a kind that no record has, whatever follows it
-empty-sheet : answer [] ≡ refused 11 0
-unfolding answer
+empty-sheet : readOf [] ≡ refused 11 0
+unfolding sheets-compute
 empty-sheet = refl
 
-end-first : answer (3 ∷ 0 ∷ []) ≡ refused 13 0
-unfolding answer
+end-first : readOf (3 ∷ 0 ∷ []) ≡ refused 13 0
+unfolding sheets-compute
 end-first = refl
 
-kind-seven : (rest : List ℕ) → answer (7 ∷ rest) ≡ refused 12 0
-unfolding answer
+kind-seven : (rest : List ℕ) → readOf (7 ∷ rest) ≡ refused 12 0
+unfolding sheets-compute
 kind-seven rest = refl
 
 -- a row record first, misplaced before it is cut short; a second board; a later row record that is cut short;
 -- no end record
-cut-row-first : answer (2 ∷ 0 ∷ []) ≡ refused 13 0
-unfolding answer
+cut-row-first : readOf (2 ∷ 0 ∷ []) ≡ refused 13 0
+unfolding sheets-compute
 cut-row-first = refl
 
-second-board : answer (board ++ first ++ board) ≡ refused 13 21
-unfolding answer
+second-board : readOf (board ++ first ++ board) ≡ refused 13 21
+unfolding sheets-compute
 second-board = refl
 
-cut-row : answer (board ++ first ++ (2 ∷ 0 ∷ [])) ≡ refused 11 21
-unfolding answer
+cut-row : readOf (board ++ first ++ (2 ∷ 0 ∷ [])) ≡ refused 11 21
+unfolding sheets-compute
 cut-row = refl
 
-no-end : answer (board ++ first) ≡ refused 11 21
-unfolding answer
+no-end : readOf (board ++ first) ≡ refused 11 21
+unfolding sheets-compute
 no-end = refl
 
 -- a priority twice; a tick of 0 µs; a wrong count; a byte after the end record
-priority-twice : answer (board ++ second ++ tenth ++ second ++ (3 ∷ 3 ∷ [])) ≡ refused 15 38
-unfolding answer
+priority-twice : readOf (board ++ second ++ tenth ++ second ++ (3 ∷ 3 ∷ [])) ≡ refused 15 38
+unfolding sheets-compute
 priority-twice = refl
 
-no-tick : answer (1 ∷ 2 ∷ 0 ∷ 0 ∷ first) ≡ refused 19 0
-unfolding answer
+no-tick : readOf (1 ∷ 2 ∷ 0 ∷ 0 ∷ first) ≡ refused 19 0
+unfolding sheets-compute
 no-tick = refl
 
-wrong-count : answer (board ++ first ++ (3 ∷ 2 ∷ 3 ∷ [])) ≡ refused 17 21
-unfolding answer
+wrong-count : readOf (board ++ first ++ (3 ∷ 2 ∷ 3 ∷ [])) ≡ refused 17 21
+unfolding sheets-compute
 wrong-count = refl
 
-byte-after : answer (board ++ first ++ (3 ∷ 1 ∷ 3 ∷ [])) ≡ refused 18 23
-unfolding answer
+byte-after : readOf (board ++ first ++ (3 ∷ 1 ∷ 3 ∷ [])) ≡ refused 18 23
+unfolding sheets-compute
 byte-after = refl
 
 -- a row record with a priority of these two bytes, the label 7 and times of 0 µs
@@ -116,12 +96,12 @@ abbrev rowWith : ℕ → ℕ → List ℕ
 rowWith high low = 2 ∷ 0 ∷ 7 ∷ high ∷ low ∷ replicate 12 0
 
 -- a priority of 0, and one of 1000
-no-priority : answer (board ++ rowWith 0 0) ≡ refused 16 4
-unfolding answer
+no-priority : readOf (board ++ rowWith 0 0) ≡ refused 16 4
+unfolding sheets-compute
 no-priority = refl
 
-priority-1000 : answer (board ++ rowWith 0 1 ++ rowWith 3 232) ≡ refused 16 21
-unfolding answer
+priority-1000 : readOf (board ++ rowWith 0 1 ++ rowWith 3 232) ≡ refused 16 21
+unfolding sheets-compute
 priority-1000 = refl
 
 -- so many rows, with the priorities from that number down to 1
@@ -130,15 +110,15 @@ rowsDown zero = []
 rowsDown (suc n) = rowWith 0 (suc n) ++ rowsDown n
 
 -- 32 rows are read, though they share a label and their times; a 33rd is one too many
-rows-32 : answer (board ++ rowsDown 32 ++ (3 ∷ 32 ∷ [])) .verdict ≡ Sound
-unfolding answer
+rows-32 : readOf (board ++ rowsDown 32 ++ (3 ∷ 32 ∷ [])) .verdict ≡ Sound
+unfolding sheets-compute
 rows-32 = refl
 
-rows-33 : answer (board ++ rowsDown 33 ++ (3 ∷ 33 ∷ [])) ≡ refused 14 548
-unfolding answer
+rows-33 : readOf (board ++ rowsDown 33 ++ (3 ∷ 33 ∷ [])) ≡ refused 14 548
+unfolding sheets-compute
 rows-33 = refl
 
 -- a 33rd row is one too many before its priority is looked at
-empty-box-33 : answer (board ++ rowsDown 32 ++ rowWith 0 0) ≡ refused 14 548
-unfolding answer
+empty-box-33 : readOf (board ++ rowsDown 32 ++ rowWith 0 0) ≡ refused 14 548
+unfolding sheets-compute
 empty-box-33 = refl

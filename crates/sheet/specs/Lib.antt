@@ -2,6 +2,7 @@
 pub mod Entries
 pub mod Checks
 pub mod Reader
+pub mod Computing
 pub mod Faults
 pub mod Whole
 pub mod Promises

@@ -2,20 +2,8 @@
 use Prim.Native.Nat.{ℕ}
 use mathlib.Core.Path.{_≡_, refl}
 use mathlib.Core.List.{List, [], _∷_, _++_}
-use Rattle.quantities.specs.Checks.{rowChecks, rowsChecks, listChecks, firstFailing, faultFrom, listFault}
-use Rattle.quantities.specs.Table.{rowsOf, emptyTable, withRow}
-use Rattle.windows.specs.Window.{plain, carry, limit, interference}
-use Rattle.windows.specs.Choice.{most, passes}
-use Rattle.windows.specs.Least.{firstOf, least}
-use Rattle.windows.specs.Bound.{window, boundsBelow}
-use Rattle.quantities.specs.Paper.{faultPaper}
-use Rattle.windows.specs.Answer.{verdict, judgedAfter, judged}
-use Rattle.records.specs.Bytes.{numberAfter, field}
-use Rattle.records.specs.Records.{recordLength, rowFields, wholeRecord, recordOn, kindOf, isEnd}
-use Rattle.sheet.specs.Entries.{ticksOf, entryOf, boardSheet, entriesOf, used, inserted, withEntry, tableWith, tableOf}
-use Rattle.sheet.specs.Checks.{misplaced, boardChecks, endChecks, recordChecks, verdictOf}
-use Rattle.sheet.specs.Checks.{rowChecks as recordRowChecks}
-use Rattle.sheet.specs.Reader.{noSheet, newReading, afterRecord, refused, whole, readFrom, readOf}
+use Rattle.windows.specs.Computing.{answers-compute}
+use Rattle.sheet.specs.Computing.{sheets-compute}
 use Rattle.lines.specs.Words.{ascii}
 use Rattle.lines.specs.Decimal.{digitsIn, decimal}
 use Rattle.lines.specs.Lines.{firstLine, rowLine, rowLines, shownLine, notShownLine, refusedLine}
@@ -23,13 +11,8 @@ use Rattle.text.specs.Text.{boundLines, judgedText, sheetText, outcomeTe
 
 -- the text of a sheet, with all that it rests on opened so that it computes
 unfoldable text : List ℕ → List ℕ
-unfolding textOf outcomeText sheetText judgedText boundLines firstLine rowLine rowLines shownLine
-    notShownLine refusedLine decimal digitsIn readOf readFrom newReading noSheet boardSheet recordOn
-    recordLength kindOf isEnd wholeRecord rowFields field numberAfter recordChecks misplaced boardChecks
-    recordRowChecks endChecks verdictOf afterRecord withEntry inserted entriesOf entryOf ticksOf used whole
-    refused tableOf tableWith withRow emptyTable rowsOf rowChecks rowsChecks listChecks firstFailing
-    faultFrom listFault plain carry limit interference most passes firstOf least window boundsBelow verdict
-    judgedAfter judged faultPaper
+unfolding answers-compute sheets-compute textOf outcomeText sheetText judgedText boundLines firstLine rowLine
+    rowLines shownLine notShownLine refusedLine decimal digitsIn
 text sheet = textOf sheet
 
 abbrev board : List ℕ

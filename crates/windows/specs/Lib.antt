@@ -6,4 +6,5 @@ pub mod Bound
 pub mod Jump
 pub mod Answer
 pub mod Judgement
+pub mod Computing
 pub mod Starred

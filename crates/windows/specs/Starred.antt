@@ -4,14 +4,11 @@ use mathlib.Core.Path.{_≡_, refl}
 use mathlib.Core.List.{List, [], _∷_}
 use Rattle.laws.specs.Each.{Each}
 use Rattle.quantities.specs.Row.{rowOf}
-use Rattle.quantities.specs.Checks.{rowChecks, rowsChecks, listChecks, roomChecks, firstFailing, faultFrom, listFault, lentFault}
 use Rattle.quantities.specs.declared.Fault.the-variants.{WholeList, OneRow}
 use Rattle.windows.specs.declared.Answer.the-variants.{Shown, NotShown, Refused}
-use Rattle.windows.specs.Window.{plain, carry, limit, interference}
-use Rattle.windows.specs.Choice.{most, passes}
-use Rattle.windows.specs.Least.{firstOf, least}
-use Rattle.windows.specs.Bound.{window, boundsBelow}
-use Rattle.windows.specs.Answer.{Judged, verdict, judgedAfter, judged, judgedInto, boundsAfter, answerPaper}
+use Rattle.windows.specs.Window.{plain, carry}
+use Rattle.windows.specs.Answer.{Judged, judged, judgedInto, boundsAfter, answerPaper}
+use Rattle.windows.specs.Computing.{answers-compute}
 
 -- answers as document 01 writes them down
 abbrev shown : List ℕ → Judged
@@ -59,8 +56,6 @@ _&_ : {A B : Type 0} → A → B → A × B
 a & b = (a, b)
 
 pub starred : Each (λ claim. claim) claims
-unfolding plain carry limit interference most passes firstOf least window boundsBelow verdict judgedAfter
-    judged judgedInto boundsAfter answerPaper rowChecks rowsChecks listChecks roomChecks firstFailing faultFrom
-    listFault lentFault
+unfolding answers-compute
 starred =
     refl & refl & refl & refl & refl & refl & refl & refl & refl & refl & refl & refl & refl & refl & refl & refl & refl & refl & refl & refl & refl & tt
