@@ -26,7 +26,8 @@ use Rattle.bench.specs.Record.{lastInstant, idle, rows, rowAt, stateAt, 
 use Rattle.bench.specs.Refusal.{firstRefusal, releaseTests, tickTests}
 use Rattle.bench.specs.Serving.{units, worked, finished}
 use Rattle.bench.specs.Step.{emptyBench, opened, fresh, started, served, moved, taken, release, tick}
-use Rattle.bench.specs.History.{Call, releases, ticks, doCall, after, concerns, callsTo, finishesTo, Heard, heardOf, heard, SameRun}
+use Rattle.bench.specs.History.{Call, releases, ticks, doCall, after, concerns, callsTo, finishesTo}
+use Rattle.bench.specs.History.{Heard, heardOf, heard, SameRun}
 use Rattle.bench.proofs.Record.{whole-unbroken}
 use Rattle.bench.proofs.Permitted.{MayRelease, may-release}
 use Rattle.bench.proofs.Steps.{release-taken, release-refused, tick-taken, tick-refused}
@@ -223,7 +224,8 @@ history-alike k (call ∷ calls) b b' a = go (concerns k call) refl (history-ali
         rw (q, callsTo, heard, after) (rest, told')
 
 -- Two benches that are alike down to place k, with histories whose calls that concern those rows agree one by one.
-pub alike-runs : (k : ℕ) (b b' : Bench) → Alike k b b' → (calls calls' : List Call) → callsTo k calls ≡ callsTo k calls' → SameRun k b b' calls calls'
+pub alike-runs : (k : ℕ) (b b' : Bench) → Alike k b b'
+    → (calls calls' : List Call) → callsTo k calls ≡ callsTo k calls' → SameRun k b b' calls calls'
 alike-runs k b b' a calls calls' e =
     let self : Alike k b' b'
     = record { agree = record { cores = refl; now = refl; rows = refl; states = refl }; kept = a .kept'; kept' = a .kept'; tall = a .tall'; tall' = a .tall' } in

@@ -68,6 +68,7 @@ bounds-few M above [] = omega arith
 bounds-few M above (row ∷ rows) = go (boundOf M above row) (λ b. bounds-few M (bounded row b ∷ above) rows)
   where
     go : (found : Option ℕ) → ((b : ℕ) → length (boundsBelow M (bounded row b ∷ above) rows) ≤ length rows)
-        → length {A = ℕ} (elim found [ none ↦ [] | some b ↦ b ∷ boundsBelow M (bounded row b ∷ above) rows ]) ≤ suc (length rows)
+        → length {A = ℕ} (elim found [ none ↦ [] | some b ↦ b ∷ boundsBelow M (bounded row b ∷ above) rows ])
+        ≤ suc (length rows)
     go none below = omega arith
     go (some b) below = omega (arith, below b)

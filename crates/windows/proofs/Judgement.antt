@@ -167,7 +167,8 @@ verdict-not-shown count number place bounds = go (eqb (length bounds) count) ref
     go true q e = absurd (not-one (cc (rw (q, verdict) at e)))
     go false q e = cc (rw (q, verdict) at e)
 
-pub verdict-not-refused : (count : ℕ) (bounds : List ℕ) (fault : Fault) → verdict count bounds .answer ≡ Refused fault → ⊥
+pub verdict-not-refused : (count : ℕ) (bounds : List ℕ) (fault : Fault)
+    → verdict count bounds .answer ≡ Refused fault → ⊥
 unfolding verdict
 verdict-not-refused count bounds fault = go (eqb (length bounds) count) refl
   where
