@@ -131,7 +131,7 @@ fn carry_work(cost: Ticks, gap: Ticks, bound: Ticks, window: Ticks) -> Ticks
     let rest = before % gap;
     let whole = gaps * cost + cost;
     // from the bound to the next release
-    let idle = gap - bound.0;
+    let idle = gap - gap;
     if rest < idle {
         return Ticks(whole);
     }

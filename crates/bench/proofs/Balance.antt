@@ -10,6 +10,7 @@ use lib.Dec.{eqb}
 use lib.ListN.{length, getD, take, set, replicate}
 use lib.Seq.{getD-set-same, getD-set-other, getD-take}
 use borrow.Author.Tests.{eqb-true, eqb-false, eq-eqb, ne-eqb}
+use Rattle.laws.specs.Checks.{firstFailing}
 use Rattle.laws.proofs.Lists.{getD-repeated}
 use Rattle.quantities.specs.Limits.{rowCapacity}
 use Rattle.quantities.specs.Table.{rowsOf}
@@ -19,7 +20,7 @@ use Rattle.bench.specs.declared.Bench.{Bench}
 use Rattle.bench.specs.declared.Refusal.{Refusal}
 use Rattle.bench.specs.declared.Outcome.the-variants.{Taken, Refused}
 use Rattle.bench.specs.Record.{idle, work, rows, stateAt}
-use Rattle.bench.specs.Refusal.{firstRefusal, releaseTests, tickTests}
+use Rattle.bench.specs.Refusal.{releaseTests, tickTests}
 use Rattle.bench.specs.Serving.{units, less, worked}
 use Rattle.bench.specs.Step.{emptyBench, opened, fresh, started, served, moved, taken, release, tick}
 use Rattle.bench.specs.History.{Call, releases, ticks, doCall, after, isTaken, brought, gave, accepted, servedIn}
@@ -58,7 +59,7 @@ served-le-work b place low high =
 module _ (b : Bench) (k : Kept b) (place : ℕ) (low : 0 < place) (high : place ≤ length (rows b)) where
   release-balance : (other demand : ℕ) → work (stateAt b place) + brought place b (releases other demand) ≡ work (stateAt (release b other demand .bench) place)
   unfolding brought isTaken
-  release-balance other demand = go (firstRefusal (releaseTests b other demand)) refl
+  release-balance other demand = go (firstFailing (releaseTests b other demand)) refl
     where
       here : (t : Bool) → eqb other place ≡ t → MayRelease b other demand
           → work (stateAt b place) + elim (t && true) [ true ↦ demand | false ↦ 0 ] ≡ work (stateAt (started b other demand) place)
@@ -72,7 +73,7 @@ module _ (b : Bench) (k : Kept b) (place : ℕ) (low : 0 < place) (high : place 
           let s = ap work (started-elsewhere b other demand k m place low (λ e. eqb-false other place q (sym e))) in
           omega arith
 
-      go : (found : Option Refusal) → firstRefusal (releaseTests b other demand) ≡ found
+      go : (found : Option Refusal) → firstFailing (releaseTests b other demand) ≡ found
           → work (stateAt b place) + elim (eqb other place && isTaken (release b other demand .outcome)) [ true ↦ demand | false ↦ 0 ] ≡ work (stateAt (release b other demand .bench) place)
       go none q = rw (release-taken b other demand q) (here (eqb other place) refl (may-release b other demand q))
       go (some why) q = rw (release-refused b other demand why q) (refused (eqb other place))
@@ -83,9 +84,9 @@ module _ (b : Bench) (k : Kept b) (place : ℕ) (low : 0 < place) (high : place 
 
   tick-balance : work (stateAt b place) ≡ gave place b ticks + work (stateAt (tick b .bench) place)
   unfolding gave isTaken taken less
-  tick-balance = go (firstRefusal (tickTests b)) refl
+  tick-balance = go (firstFailing (tickTests b)) refl
     where
-      go : (found : Option Refusal) → firstRefusal (tickTests b) ≡ found
+      go : (found : Option Refusal) → firstFailing (tickTests b) ≡ found
           → work (stateAt b place) ≡ elim (isTaken (tick b .outcome)) [ true ↦ getD (served b) (place - 1) 0 | false ↦ 0 ] + work (stateAt (tick b .bench) place)
       go none q =
           let m = ap work (moved-at b place) in
@@ -100,14 +101,14 @@ module _ (b : Bench) (k : Kept b) (place : ℕ) (low : 0 < place) (high : place 
 -- the rows of the bench stay
 pub same-rows : (b : Bench) (call : Call) → rows (doCall b call .bench) ≡ rows b
 unfolding taken moved started
-same-rows b (releases place demand) = go (firstRefusal (releaseTests b place demand)) refl
+same-rows b (releases place demand) = go (firstFailing (releaseTests b place demand)) refl
   where
-    go : (found : Option Refusal) → firstRefusal (releaseTests b place demand) ≡ found → rows (release b place demand .bench) ≡ rows b
+    go : (found : Option Refusal) → firstFailing (releaseTests b place demand) ≡ found → rows (release b place demand .bench) ≡ rows b
     go none q = rw (release-taken b place demand q)
     go (some why) q = rw (release-refused b place demand why q)
-same-rows b ticks = go (firstRefusal (tickTests b)) refl
+same-rows b ticks = go (firstFailing (tickTests b)) refl
   where
-    go : (found : Option Refusal) → firstRefusal (tickTests b) ≡ found → rows (tick b .bench) ≡ rows b
+    go : (found : Option Refusal) → firstFailing (tickTests b) ≡ found → rows (tick b .bench) ≡ rows b
     go none q = rw (tick-taken b q)
     go (some why) q = rw (tick-refused b why q)
 

@@ -10,6 +10,7 @@ use lib.Dec.{leb, ltb}
 use lib.ListN.{length, getD, take, set, replicate}
 use lib.Seq.{getD-take, take-take, take-set-lt, take-set-le}
 use borrow.Author.Tests.{lt-ltb, le-ltb, ltb-true, ltb-false, leb-true, leb-false, ne-eqb}
+use Rattle.laws.specs.Checks.{firstFailing}
 use Rattle.laws.proofs.Tests.{and-true}
 use Rattle.quantities.specs.Limits.{rowCapacity}
 use Rattle.quantities.specs.Row.{noRow}
@@ -23,7 +24,7 @@ use Rattle.bench.specs.declared.Finish.{Finish}
 use Rattle.bench.specs.declared.Outcome.{Outcome}
 use Rattle.bench.specs.declared.Outcome.the-variants.{Taken, Refused}
 use Rattle.bench.specs.Record.{lastInstant, idle, rows, rowAt, stateAt, broken}
-use Rattle.bench.specs.Refusal.{firstRefusal, releaseTests, tickTests}
+use Rattle.bench.specs.Refusal.{releaseTests, tickTests}
 use Rattle.bench.specs.Serving.{units, worked, finished}
 use Rattle.bench.specs.Step.{emptyBench, opened, fresh, started, served, moved, taken, release, tick}
 use Rattle.bench.specs.History.{Call, releases, ticks, doCall, after, concerns, callsTo, finishesTo}
@@ -57,8 +58,8 @@ same-at k place d xs ys low high e =
 
 module _ (k : ℕ) (b b' : Bench) (a : Alike k b b') where
   -- the same tests are passed
-  same-release-tests : (place demand : ℕ) → 0 < place → place ≤ k → firstRefusal (releaseTests b place demand) ≡ firstRefusal (releaseTests b' place demand)
-  unfolding releaseTests firstRefusal
+  same-release-tests : (place demand : ℕ) → 0 < place → place ≤ k → firstFailing (releaseTests b place demand) ≡ firstFailing (releaseTests b' place demand)
+  unfolding releaseTests firstFailing
   same-release-tests place demand low high =
       let n : (place ≡ 0 → ⊥) = λ e. omega arith in
       let h : place ≤ length (rows b) = omega (arith, a .tall) in
@@ -73,8 +74,8 @@ module _ (k : ℕ) (b b' : Bench) (a : Alike k b b') where
         a .agree .now,
       )
 
-  same-tick-tests : firstRefusal (tickTests b) ≡ firstRefusal (tickTests b')
-  unfolding tickTests firstRefusal
+  same-tick-tests : firstFailing (tickTests b) ≡ firstFailing (tickTests b')
+  unfolding tickTests firstFailing
   same-tick-tests = rw (whole-unbroken b (a .kept .whole), whole-unbroken b' (a .kept' .whole), a .agree .now)
 
   -- a poll that starts at a place down to k
@@ -127,9 +128,9 @@ module _ (k : ℕ) (b b' : Bench) (a : Alike k b b') where
   -- A call that concerns the rows down to k leaves them alike and says the same of them.
   release-alike : (place demand : ℕ) → 0 < place → place ≤ k
       → Agree k (release b place demand .bench) (release b' place demand .bench) × (heardOf k (release b place demand) ≡ heardOf k (release b' place demand))
-  release-alike place demand low high = go (firstRefusal (releaseTests b place demand)) refl
+  release-alike place demand low high = go (firstFailing (releaseTests b place demand)) refl
     where
-      go : (found : Option Refusal) → firstRefusal (releaseTests b place demand) ≡ found
+      go : (found : Option Refusal) → firstFailing (releaseTests b place demand) ≡ found
           → Agree k (release b place demand .bench) (release b' place demand .bench) × (heardOf k (release b place demand) ≡ heardOf k (release b' place demand))
       go none q =
           let q' = sym (same-release-tests k b b' a place demand low high) ∙ q in
@@ -140,12 +141,12 @@ module _ (k : ℕ) (b b' : Bench) (a : Alike k b b') where
 
   tick-alike : Agree k (tick b .bench) (tick b' .bench) × (heardOf k (tick b) ≡ heardOf k (tick b'))
   unfolding taken
-  tick-alike = go (firstRefusal (tickTests b)) refl
+  tick-alike = go (firstFailing (tickTests b)) refl
     where
       heard-taken : heardOf k (taken b) ≡ heardOf k (taken b')
       heard-taken = ap (λ polls. record { outcome = Taken; finishes = polls }) same-finished
 
-      go : (found : Option Refusal) → firstRefusal (tickTests b) ≡ found → Agree k (tick b .bench) (tick b' .bench) × (heardOf k (tick b) ≡ heardOf k (tick b'))
+      go : (found : Option Refusal) → firstFailing (tickTests b) ≡ found → Agree k (tick b .bench) (tick b' .bench) × (heardOf k (tick b) ≡ heardOf k (tick b'))
       go none q =
           let q' = sym (same-tick-tests k b b' a) ∙ q in
           rw (tick-taken b q, tick-taken b' q') (agree-moved, heard-taken)
@@ -155,9 +156,9 @@ module _ (k : ℕ) (b b' : Bench) (a : Alike k b b') where
 
   -- A call that does not concern them leaves them as they were.
   other-alike : (place demand : ℕ) → (ltb 0 place && leb place k) ≡ false → Agree k (release b place demand .bench) b'
-  other-alike place demand e = go (firstRefusal (releaseTests b place demand)) refl
+  other-alike place demand e = go (firstFailing (releaseTests b place demand)) refl
     where
-      go : (found : Option Refusal) → firstRefusal (releaseTests b place demand) ≡ found → Agree k (release b place demand .bench) b'
+      go : (found : Option Refusal) → firstFailing (releaseTests b place demand) ≡ found → Agree k (release b place demand .bench) b'
       go none q =
           let m = may-release b place demand q in
           let past : leb place k ≡ false = rw (lt-ltb 0 place (m .low)) at e in

@@ -7,17 +7,18 @@ use mathlib.Core.List.{[], _∷_}
 use lib.ListN.{replicate}
 use Rattle.quantities.specs.Row.{rowOf, noRow}
 use Rattle.quantities.specs.Table.{rowsOf}
-use Rattle.quantities.specs.Checks.{rowChecks, rowsChecks, listChecks, firstFailing, faultFrom, listFault}
+use Rattle.laws.specs.Checks.{firstFailing}
+use Rattle.quantities.specs.Checks.{rowChecks, rowsChecks, listChecks, faultFrom, listFault}
 use Rattle.quantities.specs.declared.Table.{Table}
 use Rattle.bench.specs.declared.Bench.{Bench}
 use Rattle.bench.specs.declared.Finish.{Finish}
 use Rattle.bench.specs.Record.{idle, work, stateAt, lastBroken, rowBroken, rowsBroken, isFault, broken}
-use Rattle.bench.specs.Refusal.{firstRefusal, tickTests, refusalPaper}
+use Rattle.bench.specs.Refusal.{tickTests, refusalPaper}
 use Rattle.bench.specs.Serving.{unit, units, workers, less, worked, ends, since, finishOf, finished}
 use Rattle.bench.specs.Step.{fresh, unless, served, moved, taken, tick}
 use Rattle.bench.specs.History.{ticks}
 use Rattle.bench.specs.TickRule.{Gets, PollEnds}
-use Rattle.bench.specs.Rules.{callTests, checkOf, callChecks, PermittedCall, TicksByRule}
+use Rattle.bench.specs.Rules.{callTests, callChecks, PermittedCall, TicksByRule}
 use Rattle.bench.specs.Fakes.{idled, once, invented, inventing, FakeTicksCaught, NoOtherTick}
 use Rattle.bench.proofs.Rules.{ticks-by-rule}
 use Rattle.bench.proofs.OneStep.{one-tick}
@@ -30,7 +31,7 @@ abbrev b : Bench
 b = record { cores = 1; table = board; now = record { 0 = 1 }; states = fresh 1 1 ∷ replicate 31 idle }
 
 may : PermittedCall b ticks
-unfolding callChecks callTests checkOf tickTests refusalPaper broken rowsBroken rowBroken lastBroken isFault
+unfolding callChecks callTests tickTests refusalPaper broken rowsBroken rowBroken lastBroken isFault
     rowsOf rowChecks rowsChecks listChecks firstFailing faultFrom listFault
 may = (refl, (refl, tt))
 
@@ -65,8 +66,8 @@ once-caught rule =
 
 -- and the other says two ticks.
 two-said : inventing b .finishes ≡ poll 2 ∷ []
-unfolding inventing invented tick unless taken served moved firstRefusal tickTests broken rowsBroken
-    rowBroken lastBroken isFault rowsOf rowChecks rowsChecks listChecks firstFailing faultFrom listFault
+unfolding inventing invented tick unless taken served moved firstFailing tickTests broken rowsBroken
+    rowBroken lastBroken isFault rowsOf rowChecks rowsChecks listChecks faultFrom listFault
     unit units less worked ends since finishOf finished
 two-said = refl
 

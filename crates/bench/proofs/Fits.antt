@@ -4,6 +4,7 @@ use native.Mathlib.Omega.{arith}
 use mathlib.Core.Path.{_≡_, refl}
 use mathlib.Core.Option.{Option, none, some}
 use lib.ListN.{length}
+use Rattle.laws.specs.Checks.{firstFailing}
 use Rattle.laws.specs.Each.{Each}
 use Rattle.laws.proofs.Lists.{each-map}
 use Rattle.quantities.specs.Limits.{rowCapacity}
@@ -14,7 +15,7 @@ use Rattle.bench.specs.declared.Bench.{Bench}
 use Rattle.bench.specs.declared.Refusal.{Refusal}
 use Rattle.bench.specs.declared.Finish.{Finish}
 use Rattle.bench.specs.Record.{lastInstant, rows, stateAt}
-use Rattle.bench.specs.Refusal.{firstRefusal, tickTests}
+use Rattle.bench.specs.Refusal.{tickTests}
 use Rattle.bench.specs.Serving.{since}
 use Rattle.bench.specs.Step.{taken, tick}
 use Rattle.bench.proofs.Record.{whole-of, sound-fits}
@@ -41,9 +42,9 @@ ends-fit b few early poll e =
 
 -- Each poll is so, for any record: a tick at the clock's end, or with more rows than a table keeps, is refused.
 pub polls-fit : (b : Bench) → Each Fits (tick b .finishes)
-polls-fit b = go (firstRefusal (tickTests b)) refl
+polls-fit b = go (firstFailing (tickTests b)) refl
   where
-    go : (found : Option Refusal) → firstRefusal (tickTests b) ≡ found → Each Fits (tick b .finishes)
+    go : (found : Option Refusal) → firstFailing (tickTests b) ≡ found → Each Fits (tick b .finishes)
     go (some why) q = rw (tick-refused b why q) tt
     go none q =
         let may = may-tick b q in

@@ -8,7 +8,8 @@ use mathlib.Core.Option.{Option, none, some}
 use lib.Dec.{ltb}
 use lib.ListN.{length, getD, take, set, replicate, length-set, length-replicate}
 use borrow.Author.Tests.{lt-ltb, le-ltb, ltb-false}
-use Rattle.laws.specs.Each.{Each}
+use Rattle.laws.specs.Checks.{checkFor, firstFailing}
+use Rattle.laws.proofs.Checks.{told-has, first-passes}
 use Rattle.laws.proofs.Tests.{or-false}
 use Rattle.quantities.specs.Limits.{rowCapacity}
 use Rattle.quantities.specs.Row.{cost, noRow}
@@ -25,7 +26,7 @@ use Rattle.bench.specs.declared.Refusal.{Refusal}
 use Rattle.bench.specs.declared.Refusal.the-variants.{NoPlace, Unfinished, TooSoon, WrongDemand, ClockEnd, BrokenRecord}
 use Rattle.bench.specs.declared.Outcome.the-variants.{Taken, Refused}
 use Rattle.bench.specs.Record.{lastInstant, idle, work, rows, rowAt, lastBroken, rowBroken, rowsBroken, broken}
-use Rattle.bench.specs.Refusal.{Test, test, firstRefusal, releaseTests, tickTests}
+use Rattle.bench.specs.Refusal.{releaseTests, tickTests}
 use Rattle.bench.specs.Serving.{less, worked}
 use Rattle.bench.specs.Step.{emptyBench, openedAfter, opened, fresh, started, served, moved, taken, release, tick}
 use Rattle.bench.specs.History.{Call, releases, ticks, doCall, after}
@@ -181,14 +182,14 @@ kept-moved b k m =
 -- each call keeps it,
 pub kept-call : (b : Bench) (call : Call) → Kept b → Kept (doCall b call .bench)
 unfolding taken
-kept-call b (releases place demand) k = go (firstRefusal (releaseTests b place demand)) refl
+kept-call b (releases place demand) k = go (firstFailing (releaseTests b place demand)) refl
   where
-    go : (found : Option Refusal) → firstRefusal (releaseTests b place demand) ≡ found → Kept (release b place demand .bench)
+    go : (found : Option Refusal) → firstFailing (releaseTests b place demand) ≡ found → Kept (release b place demand .bench)
     go none q = rw (release-taken b place demand q) (kept-started b place demand k (may-release b place demand q))
     go (some why) q = rw (release-refused b place demand why q) k
-kept-call b ticks k = go (firstRefusal (tickTests b)) refl
+kept-call b ticks k = go (firstFailing (tickTests b)) refl
   where
-    go : (found : Option Refusal) → firstRefusal (tickTests b) ≡ found → Kept (tick b .bench)
+    go : (found : Option Refusal) → firstFailing (tickTests b) ≡ found → Kept (tick b .bench)
     go none q = rw (tick-taken b q) (kept-moved b k (may-tick b q))
     go (some why) q = rw (tick-refused b why q) k
 
@@ -198,50 +199,36 @@ unfolding after
 kept-after [] b k = k
 kept-after (call ∷ calls) b k = kept-after calls (doCall b call .bench) (kept-call b call k)
 
--- A refusal that no test of a list gives is not given.
-no-such-refusal : (why : Refusal) (tests : List Test) → Each (λ one. one .why ≡ why → ⊥) tests → firstRefusal tests ≡ some why → ⊥
-unfolding firstRefusal
-no-such-refusal why [] other e = let z : _≡_ {A = ℕ} 0 1 = cc in omega arith
-no-such-refusal why (one ∷ rest) (differs, others) e = go (one .fails) refl (no-such-refusal why rest others)
-  where
-    go : (t : Bool) → one .fails ≡ t → (firstRefusal rest ≡ some why → ⊥) → ⊥
-    go true q later = let same : one .why ≡ why = cc (rw (q, firstRefusal) at e) in differs same
-    go false q later = later (rw (q, firstRefusal) at e)
-
-first-passes : (one : Test) (rest : List Test) → one .fails ≡ false → firstRefusal (one ∷ rest) ≡ firstRefusal rest
-unfolding firstRefusal
-first-passes one rest e = rw (e, firstRefusal)
-
 -- two refusals differ where their equality would make 0 and 1 equal
 differs : {why other : Refusal} → (why ≡ other → _≡_ {A = ℕ} 0 1) → why ≡ other → ⊥
 differs f q = let z = f q in omega arith
 
-release-not-29 : (b : Bench) (place demand : ℕ) → broken b ≡ false → firstRefusal (releaseTests b place demand) ≡ some BrokenRecord → ⊥
+release-not-29 : (b : Bench) (place demand : ℕ) → broken b ≡ false → firstFailing (releaseTests b place demand) ≡ some BrokenRecord → ⊥
 unfolding releaseTests
 release-not-29 b place demand w e =
-    no-such-refusal BrokenRecord _
+    told-has (λ why. why ≡ BrokenRecord → ⊥) BrokenRecord _
     (differs (λ q. cc), (differs (λ q. cc), (differs (λ q. cc), (differs (λ q. cc), tt))))
-    (sym (first-passes (test BrokenRecord (broken b)) _ w) ∙ e)
+    (sym (first-passes (checkFor BrokenRecord (broken b)) _ w) ∙ e) refl
 
-tick-not-29 : (b : Bench) → broken b ≡ false → firstRefusal (tickTests b) ≡ some BrokenRecord → ⊥
+tick-not-29 : (b : Bench) → broken b ≡ false → firstFailing (tickTests b) ≡ some BrokenRecord → ⊥
 unfolding tickTests
 tick-not-29 b w e =
-    no-such-refusal BrokenRecord _ (differs (λ q. cc), tt)
-    (sym (first-passes (test BrokenRecord (broken b)) _ w) ∙ e)
+    told-has (λ why. why ≡ BrokenRecord → ⊥) BrokenRecord _ (differs (λ q. cc), tt)
+    (sym (first-passes (checkFor BrokenRecord (broken b)) _ w) ∙ e) refl
 
 -- A call on a well kept bench never gives 29.
 pub kept-no-29 : (b : Bench) (call : Call) → Kept b → doCall b call .outcome ≡ Refused BrokenRecord → ⊥
 unfolding taken
-kept-no-29 b (releases place demand) k = go (firstRefusal (releaseTests b place demand)) refl
+kept-no-29 b (releases place demand) k = go (firstFailing (releaseTests b place demand)) refl
   where
-    go : (found : Option Refusal) → firstRefusal (releaseTests b place demand) ≡ found → release b place demand .outcome ≡ Refused BrokenRecord → ⊥
+    go : (found : Option Refusal) → firstFailing (releaseTests b place demand) ≡ found → release b place demand .outcome ≡ Refused BrokenRecord → ⊥
     go none q e = let z : _≡_ {A = ℕ} 0 1 = cc (release-taken b place demand q) in omega arith
     go (some why) q e =
         let same : why ≡ BrokenRecord = cc (release-refused b place demand why q) in
         release-not-29 b place demand (whole-unbroken b (k .whole)) (q ∙ ap some same)
-kept-no-29 b ticks k = go (firstRefusal (tickTests b)) refl
+kept-no-29 b ticks k = go (firstFailing (tickTests b)) refl
   where
-    go : (found : Option Refusal) → firstRefusal (tickTests b) ≡ found → tick b .outcome ≡ Refused BrokenRecord → ⊥
+    go : (found : Option Refusal) → firstFailing (tickTests b) ≡ found → tick b .outcome ≡ Refused BrokenRecord → ⊥
     go none q e = let z : _≡_ {A = ℕ} 0 1 = cc (tick-taken b q) in omega arith
     go (some why) q e =
         let same : why ≡ BrokenRecord = cc (tick-refused b why q) in

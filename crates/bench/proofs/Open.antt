@@ -4,7 +4,8 @@ use mathlib.Core.Path.{_≡_, refl}
 use mathlib.Core.Bool.{true}
 use mathlib.Core.Option.{Option, none, some}
 use Rattle.quantities.specs.Table.{rowsOf, emptyTable}
-use Rattle.quantities.specs.Checks.{listFault, listChecks, firstFailing, faultFrom, checkedOf}
+use Rattle.laws.specs.Checks.{firstFailing}
+use Rattle.quantities.specs.Checks.{listFault, listChecks, faultFrom, checkedOf}
 use Rattle.quantities.specs.declared.Table.{Table}
 use Rattle.quantities.specs.declared.Fault.{Fault}
 use Rattle.quantities.specs.declared.Checked.the-variants.{Sound, Faulty}

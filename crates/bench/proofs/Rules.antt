@@ -12,21 +12,23 @@ use Rattle.laws.proofs.Lists.{getD-repeated}
 use Rattle.quantities.specs.Limits.{rowCapacity}
 use Rattle.quantities.specs.Row.{cost, gap}
 use Rattle.quantities.specs.Table.{rowsOf}
-use Rattle.quantities.specs.Checks.{Check, firstFailing, listChecks, listFault, checkedOf}
-use Rattle.quantities.specs.Paper.{paper, checkedPaper, FirstOf}
+use Rattle.laws.specs.Checks.{firstFailing, FirstFailing}
+use Rattle.quantities.specs.Checks.{listChecks, listFault, checkedOf}
+use Rattle.quantities.specs.Paper.{Paper, paper, checkedPaper}
 use Rattle.quantities.proofs.Rows.{length-rows}
-use Rattle.quantities.proofs.Sound.{none-fails, first-failing, first-found, sound-list-means}
+use Rattle.laws.proofs.Checks.{none-fails, none-found, first-failing, first-found, retold-first, retold-none}
+use Rattle.quantities.proofs.Sound.{sound-list-means}
 use Rattle.quantities.proofs.Paper.{turned-away}
 use Rattle.bench.specs.declared.Bench.{Bench}
 use Rattle.bench.specs.declared.Refusal.{Refusal}
 use Rattle.bench.specs.declared.Outcome.the-variants.{Taken}
 use Rattle.bench.specs.Record.{idle, rows, rowAt, stateAt, work}
-use Rattle.bench.specs.Refusal.{Test, firstRefusal, tooSoon, releaseTests, tickTests}
+use Rattle.bench.specs.Refusal.{tooSoon, releaseTests, tickTests}
 use Rattle.bench.specs.Refusal.{refusalPaper, paperOf}
 use Rattle.bench.specs.Step.{emptyBench, openedAfter, opened, benchOr, openingOf}
 use Rattle.bench.specs.Step.{Step, fresh, started, release, taken, tick}
 use Rattle.bench.specs.History.{Call, releases, ticks, doCall, after}
-use Rattle.bench.specs.Rules.{callTests, checkOf, callChecks, PermittedCall, ReleaseChecks, TickChecks}
+use Rattle.bench.specs.Rules.{callTests, callChecks, PermittedCall, ReleaseChecks, TickChecks}
 use Rattle.bench.specs.Rules.{CallTurnedAway, CallTaken, RefusedCallHasFault, RefusedUnchanged}
 use Rattle.bench.specs.Rules.{FaultyTableNotOpened, SoundTableOpened, OpenedHolds}
 use Rattle.bench.specs.Rules.{ReleasesByRule, TicksByRule}
@@ -43,51 +45,19 @@ use Rattle.bench.proofs.TickRule.{taken-rule}
 
 -- The checks of a call, written out.
 pub release-checks : ReleaseChecks
-unfolding callChecks callTests checkOf releaseTests refusalPaper
+unfolding callChecks callTests releaseTests refusalPaper
 release-checks b place demand = refl
 
 pub tick-checks : TickChecks
-unfolding callChecks callTests checkOf tickTests refusalPaper
+unfolding callChecks callTests tickTests refusalPaper
 tick-checks b = refl
 
--- The first check that fails names the refusal; where none fails there is none.
-record RefusedBy (tests : List Test) (one : Check) : Type 0 where
-  why : Refusal
-  is-first : firstRefusal tests ≡ some why
-  on-paper : refusalPaper why ≡ paper (one .number) (one .place)
-
-refused-by : (tests : List Test) (one : Check)
-    → firstFailing (map checkOf tests) ≡ some one → RefusedBy tests one
-unfolding firstFailing firstRefusal checkOf
-refused-by [] one e = let z : _≡_ {A = ℕ} 0 1 = cc in absurd (omega arith)
-refused-by (first ∷ rest) one e = go (first .fails) refl (refused-by rest one)
-  where
-    go : (t : Bool) → first .fails ≡ t → (firstFailing (map checkOf rest) ≡ some one → RefusedBy rest one)
-        → RefusedBy (first ∷ rest) one
-    go true q later =
-        let found : some (checkOf first) ≡ some one = rw (q, firstFailing) at e in
-        let same : checkOf first ≡ one = cc in
-        record {
-          why = first .why;
-          is-first = rw (q, firstRefusal);
-          on-paper = ap (λ (c : Check). paper (c .number) (c .place)) same;
-        }
-    go false q later =
-        let by = later (rw (q, firstFailing) at e) in
-        record { why = by .why; is-first = rw (q, firstRefusal) (by .is-first); on-paper = by .on-paper }
-
-none-refused : (tests : List Test)
-    → Each (λ one. one .fails ≡ false) (map checkOf tests) → firstRefusal tests ≡ none
-unfolding firstRefusal checkOf
-none-refused [] passed = refl
-none-refused (one ∷ rest) passed = rw (passed .0, firstRefusal) (none-refused rest (passed .1))
-
-permitted : (b : Bench) (call : Call) → PermittedCall b call → firstRefusal (callTests b call) ≡ none
+permitted : (b : Bench) (call : Call) → PermittedCall b call → firstFailing (callTests b call) ≡ none
 unfolding callChecks
-permitted b call = none-refused (callTests b call)
+permitted b call p = none-found (callTests b call) (retold-none refusalPaper (callTests b call) p)
 
 -- a call does what its tests say
-refused-step : (b : Bench) (call : Call) (why : Refusal) → firstRefusal (callTests b call) ≡ some why
+refused-step : (b : Bench) (call : Call) (why : Refusal) → firstFailing (callTests b call) ≡ some why
     → doCall b call ≡ refusedStep why b
 unfolding callTests
 refused-step b (releases place demand) why e = release-refused b place demand why e
@@ -96,9 +66,9 @@ refused-step b ticks why e = tick-refused b why e
 pub call-turned-away : CallTurnedAway
 unfolding callChecks paperOf
 call-turned-away b call one first =
-    let by = refused-by (callTests b call) one (first-found (callChecks b call) one first) in
-    rw (refused-step b call (by .why) (by .is-first))
-    (record { on-paper = by .on-paper; none-end = refl; same-bench = refl })
+    let found = first-found (callChecks b call) one first in
+    let (why, is-first, on-paper) = retold-first refusalPaper (callTests b call) one found in
+    rw (refused-step b call why is-first) (record { on-paper = on-paper; none-end = refl; same-bench = refl })
 
 pub call-taken : CallTaken
 unfolding callTests taken
@@ -110,15 +80,16 @@ pub refused-call-has-fault : RefusedCallHasFault
 unfolding paperOf
 refused-call-has-fault b call why e = go (firstFailing (callChecks b call)) refl
   where
-    go : (found : Option Check) → firstFailing (callChecks b call) ≡ found
-        → FirstOf (callChecks b call) (refusalPaper why)
+    go : (found : Option Paper) → firstFailing (callChecks b call) ≡ found
+        → FirstFailing (callChecks b call) (refusalPaper why)
     go none q =
         let taken = call-taken b call (none-fails (callChecks b call) q) in
         let z : _≡_ {A = ℕ} 0 1 = cc (sym taken ∙ e) in
         absurd (omega arith)
     go (some one) q =
         let first = first-failing (callChecks b call) one q in
-        record { one = one; first = first; is = sym (ap paperOf e) ∙ call-turned-away b call one first .on-paper }
+        let is : refusalPaper why ≡ one = sym (ap paperOf e) ∙ call-turned-away b call one first .on-paper in
+        rw is first
 
 pub refused-unchanged : RefusedUnchanged
 refused-unchanged b call why e = rw (refused-same b call why e) (refl, refl)
@@ -190,7 +161,7 @@ ticks-by-rule b long p =
 ready-taken : (b : Bench) (place demand : ℕ) → Ready b place demand
     → tooSoon (b .now .0) (gap (rowAt b place)) (stateAt b place .last) ≡ false
     → release b place demand .outcome ≡ Taken
-unfolding releaseTests firstRefusal
+unfolding releaseTests firstFailing
 ready-taken b place demand r kept =
     let no-zero = ne-eqb place 0 (λ e. omega (arith, r .first)) in
     let inside = le-ltb (length (rows b)) place (r .last) in

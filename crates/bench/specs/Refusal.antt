@@ -1,10 +1,11 @@
 -- What turns a call away, in the order of document 01, and the number and place of each refusal.
 use Prim.Native.Nat.{ℕ, _-_}
-use mathlib.Core.Bool.{Bool, true, false, _||_}
+use mathlib.Core.Bool.{Bool, false, _||_}
 use mathlib.Core.List.{List, [], _∷_}
 use mathlib.Core.Option.{Option, none, some}
 use lib.Dec.{eqb, ltb}
 use lib.ListN.{length}
+use Rattle.laws.specs.Checks.{Check, checkFor}
 use Rattle.quantities.specs.Row.{cost, gap}
 use Rattle.quantities.specs.Paper.{Paper, paper, noRefusal}
 use Rattle.bench.specs.declared.Last.{Last}
@@ -17,37 +18,24 @@ use Rattle.bench.specs.declared.Outcome.{Outcome}
 use Rattle.bench.specs.declared.Outcome.the-variants.{Taken, Refused}
 use Rattle.bench.specs.Record.{lastInstant, rows, rowAt, stateAt, work, broken}
 
--- A test of a call: why the call is refused if it fails, and whether it fails.
-pub record Test : Type 0 where
-  pub why : Refusal
-  pub fails : Bool
-
-abbrev pub test : Refusal → Bool → Test
-test why fails = record { why = why; fails = fails }
-
--- why a call is refused: the first test that fails
-unfoldable pub firstRefusal : List Test → Option Refusal
-firstRefusal [] = none
-firstRefusal (one ∷ rest) = elim (one .fails) [ true ↦ some (one .why) | false ↦ firstRefusal rest ]
-
 -- whether fewer than `gap` ticks are over since the last release; a first release is never too soon
 unfoldable pub tooSoon : (now gap : ℕ) → Last → Bool
 tooSoon now gap Never = false
 tooSoon now gap (At at) = ltb (now - at .0) gap
 
 -- the tests of a release of `demand` at `place`: 29, 20, 23, 22, 21
-unfoldable pub releaseTests : Bench → (place demand : ℕ) → List Test
+unfoldable pub releaseTests : Bench → (place demand : ℕ) → List (Check Refusal)
 releaseTests b place demand =
-    test BrokenRecord (broken b)
-    ∷ test (NoPlace place) (eqb place 0 || ltb (length (rows b)) place)
-    ∷ test (WrongDemand place) (eqb demand 0 || ltb (cost (rowAt b place)) demand)
-    ∷ test (TooSoon place) (tooSoon (b .now .0) (gap (rowAt b place)) (stateAt b place .last))
-    ∷ test (Unfinished place) (ltb 0 (work (stateAt b place)))
+    checkFor BrokenRecord (broken b)
+    ∷ checkFor (NoPlace place) (eqb place 0 || ltb (length (rows b)) place)
+    ∷ checkFor (WrongDemand place) (eqb demand 0 || ltb (cost (rowAt b place)) demand)
+    ∷ checkFor (TooSoon place) (tooSoon (b .now .0) (gap (rowAt b place)) (stateAt b place .last))
+    ∷ checkFor (Unfinished place) (ltb 0 (work (stateAt b place)))
     ∷ []
 
 -- the tests of a tick: 29, 24
-unfoldable pub tickTests : Bench → List Test
-tickTests b = test BrokenRecord (broken b) ∷ test ClockEnd (eqb (b .now .0) lastInstant) ∷ []
+unfoldable pub tickTests : Bench → List (Check Refusal)
+tickTests b = checkFor BrokenRecord (broken b) ∷ checkFor ClockEnd (eqb (b .now .0) lastInstant) ∷ []
 
 -- a refusal, or none, as the code's functions answer it
 unfoldable pub outcomeOf : Option Refusal → Outcome

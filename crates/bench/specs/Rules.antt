@@ -10,8 +10,9 @@ use Rattle.laws.specs.Each.{Each}
 use Rattle.quantities.specs.Limits.{rowCapacity}
 use Rattle.quantities.specs.Row.{cost, gap}
 use Rattle.quantities.specs.Table.{rowsOf}
-use Rattle.quantities.specs.Checks.{Check, check, FirstFailing, listChecks, SoundList}
-use Rattle.quantities.specs.Paper.{paper, checkedPaper, FirstOf}
+use Rattle.laws.specs.Checks.{Check, retold, NoneFails, FirstFailing}
+use Rattle.quantities.specs.Checks.{check, listChecks, SoundList}
+use Rattle.quantities.specs.Paper.{Paper, paper, checkedPaper}
 use Rattle.quantities.specs.declared.Instant.{Instant}
 use Rattle.quantities.specs.declared.Table.{Table}
 use Rattle.quantities.specs.declared.Checked.the-variants.{Sound}
@@ -21,25 +22,22 @@ use Rattle.bench.specs.declared.Refusal.{Refusal}
 use Rattle.bench.specs.declared.Refusal.the-variants.{BrokenRecord}
 use Rattle.bench.specs.declared.Outcome.the-variants.{Taken, Refused}
 use Rattle.bench.specs.Record.{idle, rows, rowAt, stateAt, work, broken}
-use Rattle.bench.specs.Refusal.{Test, tooSoon, releaseTests, tickTests, refusalPaper, paperOf}
+use Rattle.bench.specs.Refusal.{tooSoon, releaseTests, tickTests, refusalPaper, paperOf}
 use Rattle.bench.specs.Step.{emptyBench, noBench, opened, openingOf, Step, fresh, release, tick}
 use Rattle.bench.specs.History.{Call, releases, ticks, doCall, after, accepted, servedIn}
 use Rattle.bench.specs.TickRule.{TickRule}
 
 -- The checks of a call, in their order: its tests, each with its number and place in document 01.
-unfoldable pub callTests : Bench → Call → List Test
+unfoldable pub callTests : Bench → Call → List (Check Refusal)
 callTests b (releases place demand) = releaseTests b place demand
 callTests b ticks = tickTests b
 
-unfoldable pub checkOf : Test → Check
-checkOf one = check (refusalPaper (one .why) .number) (refusalPaper (one .why) .place) (one .fails)
-
-unfoldable pub callChecks : Bench → Call → List Check
-callChecks b call = map checkOf (callTests b call)
+unfoldable pub callChecks : Bench → Call → List (Check Paper)
+callChecks b call = map (retold refusalPaper) (callTests b call)
 
 -- a call is permitted where none of them fails
 abbrev pub PermittedCall : Bench → Call → Type 0
-PermittedCall b call = Each (λ one. one .fails ≡ false) (callChecks b call)
+PermittedCall b call = NoneFails (callChecks b call)
 
 -- Order, release: 29, 20, 23, 22, 21.
 abbrev pub ReleaseChecks : Type 0
@@ -67,7 +65,7 @@ pub record TurnedAway (b : Bench) (number place : ℕ) (step : Step) : Type 0 wh
 -- A call is turned away by the first of its checks that fails, and taken where none does.
 abbrev pub CallTurnedAway : Type 0
 CallTurnedAway =
-    (b : Bench) (call : Call) (one : Check)
+    (b : Bench) (call : Call) (one : Paper)
     → FirstFailing (callChecks b call) one → TurnedAway b (one .number) (one .place) (doCall b call)
 
 abbrev pub CallTaken : Type 0
@@ -77,7 +75,7 @@ CallTaken = (b : Bench) (call : Call) → PermittedCall b call → doCall b call
 abbrev pub RefusedCallHasFault : Type 0
 RefusedCallHasFault =
     (b : Bench) (call : Call) (why : Refusal)
-    → doCall b call .outcome ≡ Refused why → FirstOf (callChecks b call) (refusalPaper why)
+    → doCall b call .outcome ≡ Refused why → FirstFailing (callChecks b call) (refusalPaper why)
 
 -- A refused bench call changes nothing on the bench.
 abbrev pub RefusedUnchanged : Type 0
@@ -86,14 +84,14 @@ RefusedUnchanged =
     → doCall b call .outcome ≡ Refused why → (doCall b call .finishes ≡ []) × (doCall b call .bench ≡ b)
 
 -- Opening a bench checks 1 to 6 in list order and gives no bench on refusal.
-pub record NotOpened (cores : ℕ) (table : Table) (one : Check) : Type 0 where
+pub record NotOpened (cores : ℕ) (table : Table) (one : Paper) : Type 0 where
   pub on-paper : checkedPaper (openingOf cores table .found) ≡ paper (one .number) (one .place)
   pub stands-for-none : openingOf cores table .bench ≡ noBench
   pub no-bench : opened cores table ≡ none
 
 abbrev pub FaultyTableNotOpened : Type 0
 FaultyTableNotOpened =
-    (cores : ℕ) (table : Table) (one : Check)
+    (cores : ℕ) (table : Table) (one : Paper)
     → FirstFailing (listChecks cores (rowsOf table)) one → NotOpened cores table one
 
 abbrev pub SoundTableOpened : Type 0

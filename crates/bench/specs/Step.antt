@@ -4,6 +4,7 @@ use mathlib.Core.Bool.{Bool}
 use mathlib.Core.List.{List, []}
 use mathlib.Core.Option.{Option, none, some}
 use lib.ListN.{length, take, set, replicate}
+use Rattle.laws.specs.Checks.{firstFailing}
 use Rattle.quantities.specs.Limits.{rowCapacity}
 use Rattle.quantities.specs.Table.{rowsOf, emptyTable}
 use Rattle.quantities.specs.Checks.{listFault, checkedOf}
@@ -20,7 +21,7 @@ use Rattle.bench.specs.declared.Opening.{Opening}
 use Rattle.bench.specs.declared.Released.{Released}
 use Rattle.bench.specs.declared.Ticked.{Ticked}
 use Rattle.bench.specs.Record.{idle, rows}
-use Rattle.bench.specs.Refusal.{firstRefusal, releaseTests, tickTests}
+use Rattle.bench.specs.Refusal.{releaseTests, tickTests}
 use Rattle.bench.specs.Serving.{units, worked, finished}
 use Rattle.bench.specs.Ended.{finishesOf}
 
@@ -70,7 +71,7 @@ started b place demand =
 -- Release: a poll of `demand` at `place` starts at the present instant.
 unfoldable pub release : Bench → (place demand : ℕ) → Step
 release b place demand =
-    unless (firstRefusal (releaseTests b place demand))
+    unless (firstFailing (releaseTests b place demand))
     (record { outcome = Taken; finishes = []; bench = started b place demand })
     b
 
@@ -99,7 +100,7 @@ taken b =
 
 -- Tick: rows are served from the top, and the instant grows by one.
 unfoldable pub tick : Bench → Step
-tick b = unless (firstRefusal (tickTests b)) (taken b) b
+tick b = unless (firstFailing (tickTests b)) (taken b) b
 
 -- the answers as the code's functions give them
 unfoldable pub benchOr : Option Bench → Bench

@@ -9,9 +9,10 @@ use tick::serve;
 ghost use mathlib.Core.Path.{_≡_};
 ghost use mathlib.Core.List.{[]};
 ghost use Prim.Native.Nat.{_<_};
+ghost use Rattle.laws.specs.Checks.{firstFailing};
 ghost use Rattle.quantities.specs.Limits.{rowCapacity};
 ghost use Rattle.bench.specs.Record.{lastInstant, broken};
-ghost use Rattle.bench.specs.Refusal.{outcomeOf, firstRefusal, releaseTests, tickTests};
+ghost use Rattle.bench.specs.Refusal.{outcomeOf, releaseTests, tickTests};
 ghost use Rattle.bench.specs.Ended.{finishesOf, noted};
 ghost use Rattle.bench.specs.History.{doCall, callOf};
 ghost use Rattle.bench.specs.Step.{emptyBench, noBench, openingOf, releasedOf, tickedOf, release, tick};
@@ -206,7 +207,7 @@ impl Bench {
 
     // Whether a release of `demand` at `place` is taken, or refused: the first of 29, 20, 23, 22, 21 decides.
     pub fn judge_release(self, place: usize, demand: Ticks) -> Outcome
-        ensures { λ r. ⌜ r ≡ outcomeOf (firstRefusal (releaseTests self place (demand .0))) ⌝ }
+        ensures { λ r. ⌜ r ≡ outcomeOf (firstFailing (releaseTests self place (demand .0))) ⌝ }
     {
         if self.broken() {
             return Outcome::Refused(Refusal::BrokenRecord);
@@ -239,7 +240,7 @@ impl Bench {
 
     // Whether a tick is taken, or refused: the first of 29 and 24 decides.
     pub fn judge_tick(self) -> Outcome
-        ensures { λ r. ⌜ r ≡ outcomeOf (firstRefusal (tickTests self)) ⌝ }
+        ensures { λ r. ⌜ r ≡ outcomeOf (firstFailing (tickTests self)) ⌝ }
     {
         if self.broken() {
             return Outcome::Refused(Refusal::BrokenRecord);

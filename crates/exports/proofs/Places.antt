@@ -7,18 +7,19 @@ use mathlib.Core.List.{List, [], _∷_, _++_}
 use mathlib.Core.Option.{Option, none, some}
 use lib.ListN.{length}
 use Rattle.laws.specs.Each.{Each}
+use Rattle.laws.specs.Checks.{Check, firstFailing}
 use Rattle.laws.proofs.Lists.{each-append}
-use Rattle.laws.proofs.Tests.{not-one}
+use Rattle.laws.proofs.Checks.{told-has, first-found}
 use Rattle.quantities.proofs.Rows.{with-row-few}
 use Rattle.windows.proofs.Bound.{bounds-few}
 use Rattle.quantities.specs.Limits.{rowCapacity}
 use Rattle.quantities.specs.Table.{emptyTable}
-use Rattle.quantities.specs.Checks.{Check, rowChecks, rowsChecks, listChecks, roomChecks, firstFailing, faultFrom, lentFault}
+use Rattle.quantities.specs.Checks.{rowChecks, rowsChecks, listChecks, roomChecks, faultFrom, lentFault}
 use Rattle.quantities.specs.declared.Row.{Row}
 use Rattle.quantities.specs.declared.Fault.{Fault}
-use Rattle.quantities.specs.declared.Fault.the-variants.{WholeList, OneRow}
 use Rattle.windows.specs.Bound.{boundsBelow}
-use Rattle.quantities.specs.Paper.{faultPaper}
+use Rattle.quantities.specs.Paper.{Paper, faultPaper}
+use Rattle.quantities.proofs.Paper.{fault-first}
 use Rattle.windows.specs.Answer.{judgedAfter, judgedInto, answerPaper}
 use Rattle.windows.specs.declared.Answer.the-variants.{Refused}
 use Rattle.windows.proofs.Judgement.{verdict-place}
@@ -26,8 +27,8 @@ use Rattle.windows.specs.Judgement.{rowOfIndex}
 use Rattle.lentrows.specs.Loaded.{loaded}
 
 -- checks that speak of places up to n
-abbrev PlacesTo : ℕ → List Check → Type 0
-PlacesTo n = Each (λ one. one .place ≤ n)
+abbrev PlacesTo : ℕ → List (Check Paper) → Type 0
+PlacesTo n = Each (λ one. one .told .place ≤ n)
 
 rows-places : (n place : ℕ) (rows : List Row) → place + length rows ≤ suc n → PlacesTo n (rowsChecks place rows)
 unfolding rowsChecks rowChecks
@@ -37,34 +38,18 @@ rows-places n place (row ∷ rows) h =
     (here, (here, (here, (here, rows-places n (suc place) rows (omega arith)))))
 
 -- the fault of such checks has such a place
-fault-place : (n : ℕ) (checks : List Check) (fault : Fault) → PlacesTo n checks
+fault-place : (n : ℕ) (checks : List (Check Paper)) (fault : Fault) → PlacesTo n checks
     → faultFrom (firstFailing checks) ≡ some fault → answerPaper (Refused fault) .place ≤ n
-unfolding firstFailing faultFrom answerPaper faultPaper
-fault-place n [] fault all e = absurd (not-one cc)
-fault-place n (one ∷ checks) fault all e = go (one .fails) refl (fault-place n checks fault (all .1))
-  where
-    failed : (place : ℕ) → one .place ≡ place → faultFrom (some one) ≡ some fault
-        → answerPaper (Refused fault) .place ≤ n
-    failed zero q f =
-        let whole : some (WholeList (one .number)) ≡ some fault = rw (q, faultFrom) at f in
-        let is : fault ≡ WholeList (one .number) = cc in
-        rw is (omega arith)
-    failed (suc place) q f =
-        let row : some (OneRow (one .number) (suc place)) ≡ some fault = rw (q, faultFrom) at f in
-        let is : fault ≡ OneRow (one .number) (suc place) = cc in
-        rw is (omega (arith, all .0))
-
-    go : (t : Bool) → one .fails ≡ t
-        → (faultFrom (firstFailing checks) ≡ some fault → answerPaper (Refused fault) .place ≤ n)
-        → answerPaper (Refused fault) .place ≤ n
-    go true q later = failed (one .place) refl (rw (q, firstFailing) at e)
-    go false q later = later (rw (q, firstFailing) at e)
+unfolding answerPaper
+fault-place n checks fault all e =
+    told-has (λ one. one .place ≤ n) (faultPaper fault) checks all
+    (first-found checks (faultPaper fault) (fault-first checks fault e))
 
 lent-places : (n cores entries : ℕ) (rows : List Row) → length rows ≤ n
     → PlacesTo n (listChecks cores rows ++ roomChecks entries rows)
 unfolding listChecks roomChecks
 lent-places n cores entries rows h =
-    each-append (λ (one : Check). one .place ≤ n) (listChecks cores rows) (roomChecks entries rows)
+    each-append (λ (one : Check Paper). one .told .place ≤ n) (listChecks cores rows) (roomChecks entries rows)
     (omega arith, (omega arith, rows-places n 1 rows (omega arith)))
     (omega arith, tt)
 

@@ -2,4 +2,5 @@
 pub mod Numbers
 pub mod Lists
 pub mod Tests
+pub mod Checks
 pub mod Permuted

@@ -1,4 +1,5 @@
--- Words about lists that definitions use.
+-- Words about lists, and lists of checks, that definitions use.
 pub mod Each
 pub mod Permuted
 pub mod Member
+pub mod Checks

@@ -14,6 +14,7 @@ use prog.Wp.{Heap}
 use ghost.Atoms.{Atoms}
 use contract.Monad.{Fun, fact, fact-mono}
 use denote.Ref.{RefT}
+use Rattle.laws.specs.Checks.{firstFailing}
 use Rattle.quantities.specs.declared.Row.{Row}
 use Rattle.quantities.specs.declared.Ticks.{Ticks}
 use Rattle.windows.specs.Answer.{judgedInto}
@@ -22,7 +23,7 @@ use Rattle.quantities.specs.Lengths.{numbers}
 use Rattle.bench.specs.declared.Bench.{Bench}
 use Rattle.bench.specs.declared.Outcome.{Outcome}
 use Rattle.bench.specs.declared.Refusal.{Refusal}
-use Rattle.bench.specs.Refusal.{firstRefusal, tickTests}
+use Rattle.bench.specs.Refusal.{tickTests}
 use Rattle.bench.specs.Step.{release, served, moved, taken, tick, releasedOf, tickedOf}
 use Rattle.bench.specs.History.{after}
 use Rattle.bench.proofs.Units.{length-worked}
@@ -55,9 +56,9 @@ of-tick b left r many given = tick-answer b _ many (rw (given .answers, given .l
 -- a tick leaves as many states as there were
 same-many : (b : Bench) → length (tick b .bench .states) ≡ length (b .states)
 unfolding taken moved
-same-many b = go (firstRefusal (tickTests b)) refl
+same-many b = go (firstFailing (tickTests b)) refl
   where
-    go : (found : Option Refusal) → firstRefusal (tickTests b) ≡ found
+    go : (found : Option Refusal) → firstFailing (tickTests b) ≡ found
         → length (tick b .bench .states) ≡ length (b .states)
     go none q = rw (tick-taken b q) (length-worked (served b) (b .states))
     go (some why) q = rw (tick-refused b why q) refl

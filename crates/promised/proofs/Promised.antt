@@ -7,6 +7,7 @@ use mathlib.Core.Bool.{Bool}
 use mathlib.Core.List.{List, [], _++_}
 use mathlib.Core.Option.{none}
 use lib.ListN.{length, drop}
+use Rattle.laws.specs.Checks.{firstFailing}
 use Rattle.quantities.specs.declared.Row.{Row}
 use Rattle.quantities.specs.declared.Table.{Table}
 use Rattle.quantities.specs.declared.Checked.{Checked}
@@ -35,7 +36,7 @@ use Rattle.bench.specs.declared.Outcome.{Outcome as CallOutcome}
 use Rattle.bench.specs.declared.Opening.{Opening}
 use Rattle.bench.specs.declared.Released.{Released}
 use Rattle.bench.specs.declared.Ticked.{Ticked}
-use Rattle.bench.specs.Refusal.{paperOf as benchPaper, firstRefusal, releaseTests, tickTests, outcomeOf}
+use Rattle.bench.specs.Refusal.{paperOf as benchPaper, releaseTests, tickTests, outcomeOf}
 use Rattle.bench.specs.Record.{broken}
 use Rattle.bench.specs.Ended.{finishesOf}
 use Rattle.bench.specs.Step.{openingOf, release, tick, releasedOf, tickedOf}
@@ -233,7 +234,7 @@ request-answer b (Release place demand) r many is = (
 
 -- what a judge says is the outcome of the call
 pub release-judged : (b : Bench) (place demand : ℕ) (r : CallOutcome)
-    → r ≡ outcomeOf (firstRefusal (releaseTests b place demand)) → OutcomeBy (releaseOrder b place demand) r
+    → r ≡ outcomeOf (firstFailing (releaseTests b place demand)) → OutcomeBy (releaseOrder b place demand) r
 release-judged b place demand r is =
     let same = is ∙ calls-answered .judge-release b place demand in
     record {
@@ -242,7 +243,7 @@ release-judged b place demand r is =
       taken = λ passed. same ∙ call-taken b (releases place demand) passed;
     }
 
-pub tick-judged : (b : Bench) (r : CallOutcome) → r ≡ outcomeOf (firstRefusal (tickTests b))
+pub tick-judged : (b : Bench) (r : CallOutcome) → r ≡ outcomeOf (firstFailing (tickTests b))
     → OutcomeBy (tickOrder b) r
 tick-judged b r is =
     let same = is ∙ calls-answered .judge-tick b in

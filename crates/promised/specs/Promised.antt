@@ -15,8 +15,8 @@ use Rattle.quantities.specs.declared.Table.{Table}
 use Rattle.quantities.specs.declared.Checked.{Checked}
 use Rattle.quantities.specs.declared.Checked.the-variants.{Sound, Faulty}
 use Rattle.quantities.specs.Table.{rowsOf}
-use Rattle.quantities.specs.Paper.{paper, checkedPaper}
-use Rattle.quantities.specs.Checks.{Check, FirstFailing}
+use Rattle.quantities.specs.Paper.{Paper, paper, checkedPaper}
+use Rattle.laws.specs.Checks.{Check, FirstFailing}
 use Rattle.quantities.specs.Lengths.{numbers}
 use Rattle.windows.specs.declared.Answer.{Answer}
 use Rattle.windows.specs.declared.Answer.the-variants.{Shown, NotShown, Refused}
@@ -55,13 +55,13 @@ use Rattle.promises.specs.CallBytes.{answersTo, ReplayAnswers}
 -- its first one.
 pub record SheetAnswer (sheet : List ℕ) (r : Outcome) : Type 0 where
   pub whole : (n : ℕ) → WholeWith sheet n → (r .verdict ≡ SoundSheet) × SheetRead sheet n (r .sheet)
-  pub faulty : (one : Check) → FirstFault sheet one → TurnedAway (one .number) (one .place) r
+  pub faulty : (one : Paper) → FirstFault sheet one → TurnedAway (one .number) (one .place) r
 
 -- `text::print_answer`: the text of a sheet is at the front of a lent buffer of 2,856 bytes or more, and
 -- every later byte is as it was; a shorter buffer is as it was, and none of its bytes is the text.
 pub record TextAnswer (sheet before after : List ℕ) (count : ℕ) : Type 0 where
   pub whole : (n : ℕ) → WholeWith sheet n → 2856 ≤ length before → WholeWay sheet n (take count after)
-  pub faulty : (one : Check) → FirstFault sheet one → 2856 ≤ length before
+  pub faulty : (one : Paper) → FirstFault sheet one → 2856 ≤ length before
       → take count after ≡ refusedText (one .number) (one .place)
   pub many : length (take count after) ≡ count
   pub later : drop count after ≡ drop count before
@@ -76,13 +76,13 @@ pub record TableJudged (cores : ℕ) (rows : List Row) (r : Analysis) : Type 0 w
 -- `analysis::analyse`: a table in range is judged, and one with a fault is turned away by it, with no bounds.
 pub record AnalysisAnswer (cores : ℕ) (table : Table) (r : Analysis) : Type 0 where
   pub in-range : ListInRange cores (rowsOf table) → TableJudged cores (rowsOf table) r
-  pub faulty : (one : Check) → FirstFailing (listOrder cores (rowsOf table)) one
+  pub faulty : (one : Paper) → FirstFailing (listOrder cores (rowsOf table)) one
       → (r .answer ≡ Refused (faultAt (one .number) (one .place))) × InEntries [] (numbers (r .bounds))
 
 -- `Table::check`: checks 1 to 6 in the order of a list.
 pub record TableAnswer (cores : ℕ) (table : Table) (r : Checked) : Type 0 where
   pub in-range : ListInRange cores (rowsOf table) → r ≡ Sound
-  pub faulty : (one : Check) → FirstFailing (listOrder cores (rowsOf table)) one
+  pub faulty : (one : Paper) → FirstFailing (listOrder cores (rowsOf table)) one
       → r ≡ Faulty (faultAt (one .number) (one .place))
 
 -- `Table::empty` has no row. `Table::with_row` has one row more, below the others; a full table then counts
@@ -166,7 +166,7 @@ abbrev pub EndAnswer : Record → Bool → Type 0
 EndAnswer found r = (r ≡ true) ↔ ((count : ℕ) × (found ≡ End count))
 
 -- A table with a fault gives no bench: what stands there is broken, so that each call on it gives 29.
-pub record NoBench (one : Check) (r : Opening) : Type 0 where
+pub record NoBench (one : Paper) (r : Opening) : Type 0 where
   pub found : r .found ≡ Faulty (faultAt (one .number) (one .place))
   pub on-paper : checkedPaper (r .found) ≡ paper (one .number) (one .place)
   pub blank : r .bench ≡ blankBench
@@ -175,7 +175,7 @@ pub record NoBench (one : Check) (r : Opening) : Type 0 where
 -- `Bench::opened`: a table in range is opened at instant 0, with no row released.
 pub record OpeningAnswer (cores : ℕ) (table : Table) (r : Opening) : Type 0 where
   pub in-range : ListInRange cores (rowsOf table) → r ≡ record { found = Sound; bench = newBench cores table }
-  pub faulty : (one : Check) → FirstFailing (listOrder cores (rowsOf table)) one → NoBench one r
+  pub faulty : (one : Paper) → FirstFailing (listOrder cores (rowsOf table)) one → NoBench one r
 
 -- `Bench::broken`: whether 29 is due.
 abbrev pub BrokenAnswer : Bench → Bool → Type 0
@@ -184,13 +184,13 @@ BrokenAnswer b r = (r ≡ true) ↔ RecordBroken b
 -- `Bench::release`: turned away by the first check that fails, with nothing changed on the bench; taken where
 -- none does, and a poll starts.
 pub record ReleaseAnswer (b : Bench) (place demand : ℕ) (r : Released) : Type 0 where
-  pub turned-away : (one : Check) → FirstFailing (releaseOrder b place demand) one
+  pub turned-away : (one : Paper) → FirstFailing (releaseOrder b place demand) one
       → (paperOf (r .outcome) ≡ paper (one .number) (one .place)) × (r .bench ≡ b)
   pub taken : Each (λ one. one .fails ≡ false) (releaseOrder b place demand)
       → PollStarted b place demand (record { outcome = r .outcome; finishes = []; bench = r .bench })
 
 -- A tick that is turned away: its number and place, no poll that ended, and the bench as it was.
-pub record TickTurnedAway (b : Bench) (one : Check) (r : TickedBench) : Type 0 where
+pub record TickTurnedAway (b : Bench) (one : Paper) (r : TickedBench) : Type 0 where
   pub on-paper : paperOf (r .outcome) ≡ paper (one .number) (one .place)
   pub none-end : ListsPolls [] (r .finishes)
   pub same-bench : r .bench ≡ b
@@ -203,7 +203,7 @@ pub record TickTaken (b : Bench) (r : TickedBench) : Type 0 where
 
 -- `Bench::tick`.
 pub record TickAnswer (b : Bench) (r : TickedBench) : Type 0 where
-  pub turned-away : (one : Check) → FirstFailing (tickOrder b) one → TickTurnedAway b one r
+  pub turned-away : (one : Paper) → FirstFailing (tickOrder b) one → TickTurnedAway b one r
   pub taken : Each (λ one. one .fails ≡ false) (tickOrder b) → TickTaken b r
 
 -- `run`: as many ticks as it is told, each on the bench that the one before it left.
@@ -220,8 +220,8 @@ RequestAnswer b (Release place demand) r =
     × ListsPolls [] (r .finishes)
 
 -- `Bench::judge_release` and `Bench::judge_tick`: the first check that fails, or that none does.
-pub record OutcomeBy (checks : List Check) (r : CallOutcome) : Type 0 where
-  pub turned-away : (one : Check) → FirstFailing checks one → paperOf r ≡ paper (one .number) (one .place)
+pub record OutcomeBy (checks : List (Check Paper)) (r : CallOutcome) : Type 0 where
+  pub turned-away : (one : Paper) → FirstFailing checks one → paperOf r ≡ paper (one .number) (one .place)
   pub taken : Each (λ one. one .fails ≡ false) checks → r ≡ Taken
 
 -- `replay::replay`: every call answered where there is room for all answers; the answers to the first calls
@@ -238,7 +238,7 @@ pub record ReplayAnswer (cores : ℕ) (table : Table) (calls before after : List
       → (r ≡ NoRoom (6 * length done))
       × (after
       ≡ answersTo (newBench cores table) done ++ drop (length (answersTo (newBench cores table) done)) before)
-  pub not-opened : (one : Check) → FirstFailing (listOrder cores (rowsOf table)) one
+  pub not-opened : (one : Paper) → FirstFailing (listOrder cores (rowsOf table)) one
       → (r ≡ NotOpened (faultAt (one .number) (one .place))) × (after ≡ before)
 
 -- The rows of a table in range are judged where the bounds list has an entry for each: what is told is the
@@ -253,7 +253,7 @@ pub record TableTold (cores : ℕ) (rows : List Row) (r : Told) : Type 0 where
 -- 7 after the rows' checks, with no bound to write.
 pub record ToldAnswer (cores : ℕ) (table : Table) (room : ℕ) (r : Told) : Type 0 where
   pub judges : ListInRange cores (rowsOf table) → length (rowsOf table) ≤ room → TableTold cores (rowsOf table) r
-  pub faulty : (one : Check) → FirstFailing (lentOrder cores room (rowsOf table)) one
+  pub faulty : (one : Paper) → FirstFailing (lentOrder cores room (rowsOf table)) one
       → (r .answer ≡ Refused (faultAt (one .number) (one .place)))
       × InEntries [] (numbers (r .bounds))
       × (r .shown ≡ 0)
@@ -269,5 +269,5 @@ pub record JudgedForC (cores : ℕ) (rows : List Row) (before after : List ℕ) 
 -- `dipperslate_analyse`: the number times 2 to the 32nd plus the place, and what the lent list is left with.
 pub record AnswerForC (cores : ℕ) (rows : List Row) (before after : List ℕ) (code : ℕ) : Type 0 where
   pub judges : ListInRange cores rows → length rows ≤ length before → JudgedForC cores rows before after code
-  pub faulty : (one : Check) → FirstFailing (lentOrder cores (length before) rows) one
+  pub faulty : (one : Paper) → FirstFailing (lentOrder cores (length before) rows) one
       → (code ≡ one .number * 4294967296 + one .place) × (after ≡ before)

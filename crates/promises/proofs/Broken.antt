@@ -9,10 +9,12 @@ use mathlib.Core.Option.{Option, none, some}
 use lib.Dec.{ltb}
 use lib.ListN.{length, getD}
 use borrow.Author.Tests.{ltb-true, lt-ltb, le-ltb}
+use Rattle.quantities.specs.Paper.{Paper}
 use Rattle.quantities.specs.declared.Row.{Row}
 use Rattle.quantities.specs.Row.{cost, noRow}
-use Rattle.quantities.specs.Checks.{Check, firstFailing, faultFrom, listFault, listChecks, FirstFailing}
-use Rattle.quantities.proofs.Sound.{first-failing}
+use Rattle.laws.specs.Checks.{firstFailing, FirstFailing}
+use Rattle.quantities.specs.Checks.{faultFrom, listFault, listChecks}
+use Rattle.laws.proofs.Checks.{first-failing}
 use Rattle.quantities.proofs.Paper.{turned-away}
 use Rattle.bench.specs.declared.Last.{Last}
 use Rattle.bench.specs.declared.Last.the-variants.{Never, At}
@@ -90,14 +92,14 @@ table-breaks : (b : Bench) → faulty b ≡ true → RecordBroken b
 unfolding isFault listFault faultFrom
 table-breaks b e = go (firstFailing (listChecks (b .cores) (rowsOn b))) refl
   where
-    go : (found : Option Check) → firstFailing (listChecks (b .cores) (rowsOn b)) ≡ found → RecordBroken b
+    go : (found : Option Paper) → firstFailing (listChecks (b .cores) (rowsOn b)) ≡ found → RecordBroken b
     go none q = let z : _≡_ {A = ℕ} 0 1 = cc (rw (q, faultFrom, isFault) at e) in absurd (omega arith)
     go (some one) q =
         let first = first-failing (listChecks (b .cores) (rowsOn b)) one q in
         let written-out = sym (list-order (b .cores) (rowsOn b)) in
         faulty-table one (subst (λ checks. FirstFailing checks one) written-out first)
 
-table-test : (b : Bench) (one : Check) → FirstFailing (listOrder (b .cores) (rowsOn b)) one → broken b ≡ true
+table-test : (b : Bench) (one : Paper) → FirstFailing (listOrder (b .cores) (rowsOn b)) one → broken b ≡ true
 unfolding listFault
 table-test b one first =
     let same = subst (λ checks. FirstFailing checks one) (list-order (b .cores) (rowsOn b)) first in

@@ -13,12 +13,13 @@ use Rattle.laws.proofs.Lists.{each-map}
 use Rattle.quantities.specs.declared.Table.{Table}
 use Rattle.quantities.specs.Table.{rowsOf}
 use Rattle.quantities.specs.Paper.{Paper}
-use Rattle.quantities.proofs.Sound.{first-found, sound-list-means}
+use Rattle.laws.proofs.Checks.{first-found, told-has}
+use Rattle.quantities.proofs.Sound.{sound-list-means}
 use Rattle.bench.specs.declared.Bench.{Bench}
 use Rattle.bench.specs.declared.Outcome.{Outcome}
 use Rattle.bench.specs.declared.Outcome.the-variants.{Taken, Refused}
 use Rattle.bench.specs.declared.Finish.{Finish}
-use Rattle.bench.specs.Refusal.{paperOf}
+use Rattle.bench.specs.Refusal.{paperOf, refusalPaper}
 use Rattle.bench.specs.declared.Request.{Request}
 use Rattle.bench.specs.Step.{emptyBench, openingOf, tick}
 use Rattle.bench.specs.History.{Call, releases, ticks, doCall, callOf, steps}
@@ -38,7 +39,7 @@ use Rattle.promises.specs.CallBytes.{PollsFit, pollsIn, AnswerIn, Answer
 use Rattle.promises.specs.CallBytes.{answersTo, ReplayAnswers, ReplayAnswered, ReplayNoRoom}
 use Rattle.promises.specs.CallBytes.{ReplayNotOpened}
 use Rattle.promises.proofs.Lists.{sound-in-range}
-use Rattle.promises.proofs.Calls.{refused-call-has-fault, first-has}
+use Rattle.promises.proofs.Calls.{refused-call-has-fault}
 use Rattle.promises.proofs.Openings.{opening-refused}
 
 pub requests-read : RequestsRead
@@ -113,7 +114,7 @@ polls-back (poll ∷ polls) ((place, response), fit) =
     rw (same-place, same-response, polls-back polls fit)
 
 -- the place of an answer is that of one of the call's checks, or 0
-small-place : (b : Bench) (call : Call) → Each (λ one. one .place < 256) (callOrder b call)
+small-place : (b : Bench) (call : Call) → Each (λ one. one .told .place < 256) (callOrder b call)
     → paperOf (doCall b call .outcome) .place < 256
 unfolding paperOf
 small-place b call small = go (doCall b call .outcome) refl
@@ -122,10 +123,8 @@ small-place b call small = go (doCall b call .outcome) refl
         → paperOf (doCall b call .outcome) .place < 256
     go Taken q = rw q (omega arith)
     go (Refused why) q =
-        let fault = refused-call-has-fault b call why q in
-        let found = first-found (callOrder b call) (fault .one) (fault .first) in
-        let small-one = first-has (λ one. one .place < 256) (fault .one) (callOrder b call) small found in
-        rw q (omega (arith, small-one, ap (λ (p : Paper). p .place) (fault .is)))
+        let found = first-found (callOrder b call) (refusalPaper why) (refused-call-has-fault b call why q) in
+        rw q (told-has (λ one. one .place < 256) (refusalPaper why) (callOrder b call) small found)
 
 answer-in : (b : Bench) (call : Call) → paperOf (doCall b call .outcome) .place < 256 → AnswerIn b call
 answer-in b call small =

@@ -2,26 +2,26 @@
 use Prim.Native.Nat.{ℕ, _+_, _-_, _≤_, _<_}
 use native.Mathlib.Decide.{decLe}
 use native.Mathlib.Omega.{arith}
-use mathlib.Core.Path.{_≡_, refl, sym, ap, subst, _∙_}
+use mathlib.Core.Path.{_≡_, refl, sym, ap, _∙_}
 use mathlib.Core.Bool.{Bool, true, false, _||_}
 use mathlib.Core.List.{List, [], _∷_}
 use mathlib.Core.Option.{some}
 use lib.Dec.{eqb, ltb}
 use lib.ListN.{length}
 use borrow.Author.Tests.{ltb-false, lt-ltb, le-ltb, eqb-false, ne-eqb}
-use Rattle.laws.specs.Each.{Each}
 use Rattle.laws.proofs.Tests.{or-false}
 use Rattle.quantities.specs.declared.Instant.{Instant}
 use Rattle.quantities.specs.Paper.{Paper, paper}
-use Rattle.quantities.specs.Checks.{Check, check, firstFailing}
-use Rattle.quantities.proofs.Sound.{first-failing, first-found, none-fails, none-found}
+use Rattle.laws.specs.Checks.{Check, firstFailing}
+use Rattle.quantities.specs.Checks.{check}
+use Rattle.laws.proofs.Checks.{first-failing, first-found, first-passes, failing-behind, none-fails, none-found, told-has}
 use Rattle.bench.specs.declared.Last.{Last}
 use Rattle.bench.specs.declared.Last.the-variants.{Never, At}
 use Rattle.bench.specs.declared.Bench.{Bench}
 use Rattle.bench.specs.declared.Outcome.{Outcome}
 use Rattle.bench.specs.declared.Outcome.the-variants.{Taken, Refused}
 use Rattle.bench.specs.Record.{broken}
-use Rattle.bench.specs.Refusal.{tooSoon, paperOf}
+use Rattle.bench.specs.Refusal.{tooSoon, refusalPaper, paperOf}
 use Rattle.bench.specs.Step.{Step, release}
 use Rattle.bench.specs.History.{Call, releases, ticks, doCall, after}
 use Rattle.bench.specs.Rules.{callChecks, TurnedAway}
@@ -62,7 +62,7 @@ early-soon b place whole on (At at) q =
     gap-alike (b .now .0) (at .0) (rowOn b place .t .0) (not-later b place at whole on q)
 
 -- Of two lists of checks that begin alike, the same is the first to fail if it is so of the rest of them.
-first-alike : (one : Check) (rest other : List Check)
+first-alike : (one : Check Paper) (rest other : List (Check Paper))
     → (one .fails ≡ false → firstFailing rest ≡ firstFailing other)
     → firstFailing (one ∷ rest) ≡ firstFailing (one ∷ other)
 unfolding firstFailing
@@ -73,7 +73,7 @@ first-alike one rest other later = go (one .fails) refl
     go false q = rw (q, firstFailing) (later q)
 
 -- The checks written out and those of the functions: the same is the first to fail.
-abbrev fromDemand : Bench → (place demand : ℕ) → (early : Bool) → List Check
+abbrev fromDemand : Bench → (place demand : ℕ) → (early : Bool) → List (Check Paper)
 fromDemand b place demand early =
     check 23 place (eqb demand 0 || ltb (rowOn b place .c .0) demand)
     ∷ check 22 place early
@@ -112,50 +112,30 @@ call-taken b call passed =
 pub refused-call-has-fault : RefusedCallHasFault
 refused-call-has-fault b call why e =
     let fault = refused-by-checks b call why e in
-    let found = first-of-call b call ∙ first-found (callChecks b call) (fault .one) (fault .first) in
-    record { one = fault .one; first = first-failing (callOrder b call) (fault .one) found; is = fault .is }
-
--- What holds of each check of a list holds of the first that fails.
-pub first-has : (P : Check → Type 0) (one : Check) (checks : List Check) → Each P checks
-    → firstFailing checks ≡ some one → P one
-unfolding firstFailing
-first-has P one [] each found = let z : _≡_ {A = ℕ} 0 1 = cc in absurd (omega arith)
-first-has P one (head ∷ rest) each found = go (head .fails) refl (first-has P one rest (each .1))
-  where
-    go : (t : Bool) → head .fails ≡ t → (firstFailing rest ≡ some one → P one) → P one
-    go true q later =
-        let f : some head ≡ some one = rw (q, firstFailing) at found in
-        let same : head ≡ one = cc in
-        subst P same (each .0)
-    go false q later = later (rw (q, firstFailing) at found)
-
-first-passes : (one : Check) (rest : List Check) → one .fails ≡ false
-    → firstFailing (one ∷ rest) ≡ firstFailing rest
-unfolding firstFailing
-first-passes one rest e = rw (e, firstFailing)
+    let found = first-of-call b call ∙ first-found (callChecks b call) (refusalPaper why) fault in
+    first-failing (callOrder b call) (refusalPaper why) found
 
 -- No check but the record's has number 29.
-not-29 : (b : Bench) (call : Call) (one : Check) → broken b ≡ false
+not-29 : (b : Bench) (call : Call) (one : Paper) → broken b ≡ false
     → firstFailing (callOrder b call) ≡ some one → one .number ≡ 29 → ⊥
 not-29 b (releases place demand) one whole found =
-    first-has (λ other. other .number ≡ 29 → ⊥) one _
+    told-has (λ other. other .number ≡ 29 → ⊥) one _
     ((λ e. omega arith), ((λ e. omega arith), ((λ e. omega arith), ((λ e. omega arith), tt))))
     (sym (first-passes (check 29 0 (broken b)) _ whole) ∙ found)
 not-29 b ticks one whole found =
-    first-has (λ other. other .number ≡ 29 → ⊥) one _ ((λ e. omega arith), tt)
+    told-has (λ other. other .number ≡ 29 → ⊥) one _ ((λ e. omega arith), tt)
     (sym (first-passes (check 29 0 (broken b)) _ whole) ∙ found)
 
 pub is-29 : (b : Bench) (call : Call) → RecordBroken b → Refuses b 29 0 (doCall b call)
 unfolding firstFailing
 is-29 b (releases place demand) broke =
-    call-turned-away b (releases place demand) (check 29 0 (broken b))
-    (record { before = []; after = _; stands = refl; failed = breaks-broken b broke; passed = tt })
+    call-turned-away b (releases place demand) (paper 29 0)
+    (failing-behind [] _ (paper 29 0) (broken b) (breaks-broken b broke) tt)
 is-29 b ticks broke =
-    call-turned-away b ticks (check 29 0 (broken b))
-    (record { before = []; after = _; stands = refl; failed = breaks-broken b broke; passed = tt })
+    call-turned-away b ticks (paper 29 0) (failing-behind [] _ (paper 29 0) (broken b) (breaks-broken b broke) tt)
 
 -- a call that gives 29 has a broken record
-gave-29 : (b : Bench) (call : Call) (one : Check) → firstFailing (callOrder b call) ≡ some one
+gave-29 : (b : Bench) (call : Call) (one : Paper) → firstFailing (callOrder b call) ≡ some one
     → one .number ≡ 29 → RecordBroken b
 gave-29 b call one found is = go (broken b) refl
   where
@@ -173,10 +153,8 @@ gives-29 b call = ((λ e. go (doCall b call .outcome) refl e), (λ broke. is-29 
         let z : _≡_ {A = ℕ} 0 29 = ap (λ (p : Paper). p .number) (sym (ap paperOf q) ∙ e) in
         absurd (omega arith)
     go (Refused why) q e =
-        let fault = refused-call-has-fault b call why q in
-        let same : 29 ≡ fault .one .number
-        = ap (λ (p : Paper). p .number) (sym e ∙ ap paperOf q ∙ fault .is) in
-        gave-29 b call (fault .one) (first-found (callOrder b call) (fault .one) (fault .first)) (sym same)
+        let found = first-found (callOrder b call) (refusalPaper why) (refused-call-has-fault b call why q) in
+        gave-29 b call (refusalPaper why) found (ap (λ (p : Paper). p .number) (sym (ap paperOf q) ∙ e))
 
 -- A row that is ready: of the checks of its release 22 alone can fail.
 module _ (b : Bench) (place demand : ℕ) (ready : Ready b place demand) where
@@ -201,18 +179,15 @@ module _ (b : Bench) (place demand : ℕ) (ready : Ready b place demand) where
 
   ready-22 : early ≡ true → Refuses b 22 place (release b place demand)
   ready-22 too-early =
-      call-turned-away b (releases place demand) (check 22 place early)
-      (record {
-        before =
-            check 29 0 (broken b)
-            ∷ check 20 place (eqb place 0 || ltb (length (rowsOn b)) place)
-            ∷ check 23 place (eqb demand 0 || ltb (rowOn b place .c .0) demand)
-            ∷ [];
-        after = check 21 place (ltb 0 (stateOn b place .left .0)) ∷ [];
-        stands = refl;
-        failed = too-early;
-        passed = (unbroken b (ready .whole), (place-passes, (demand-passes, tt)));
-      })
+      call-turned-away b (releases place demand) (paper 22 place)
+      (failing-behind
+      (check 29 0 (broken b)
+      ∷ check 20 place (eqb place 0 || ltb (length (rowsOn b)) place)
+      ∷ check 23 place (eqb demand 0 || ltb (rowOn b place .c .0) demand)
+      ∷ [])
+      (check 21 place (ltb 0 (stateOn b place .left .0)) ∷ [])
+      (paper 22 place) early too-early
+      (unbroken b (ready .whole), (place-passes, (demand-passes, tt))))
 
 -- a call that is turned away is not taken
 turned-not-taken : (b : Bench) (number place : ℕ) (step : Step) → 0 < number → Refuses b number place step

@@ -6,10 +6,11 @@ use mathlib.Core.Path.{_≡_, refl}
 use mathlib.Core.Bool.{false}
 use mathlib.Core.List.{List, [], _∷_}
 use mathlib.Core.Option.{Option, none, some}
+use Rattle.laws.specs.Checks.{firstFailing}
 use Rattle.bench.specs.declared.Bench.{Bench}
 use Rattle.bench.specs.declared.Refusal.{Refusal}
 use Rattle.bench.specs.Record.{lastInstant, broken}
-use Rattle.bench.specs.Refusal.{firstRefusal, releaseTests}
+use Rattle.bench.specs.Refusal.{releaseTests}
 use Rattle.bench.specs.Step.{started, release, moved, taken, tick}
 use Rattle.bench.specs.History.{Call, releases, ticks, after}
 use Rattle.bench.proofs.Record.{whole-unbroken}
@@ -22,9 +23,9 @@ use Rattle.promises.specs.Polls.{ticksAmong, ClockCounts}
 -- On a bench that is well kept a release leaves the clock, and a tick moves it on unless it is at its end.
 pub release-clock : (b : Bench) (place demand : ℕ) → release b place demand .bench .now ≡ b .now
 unfolding started
-release-clock b place demand = go (firstRefusal (releaseTests b place demand)) refl
+release-clock b place demand = go (firstFailing (releaseTests b place demand)) refl
   where
-    go : (found : Option Refusal) → firstRefusal (releaseTests b place demand) ≡ found
+    go : (found : Option Refusal) → firstFailing (releaseTests b place demand) ≡ found
         → release b place demand .bench .now ≡ b .now
     go none e = rw (release-taken b place demand e) refl
     go (some why) e = rw (release-refused b place demand why e) refl

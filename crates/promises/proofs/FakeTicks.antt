@@ -10,7 +10,8 @@ use lib.ListN.{replicate}
 use Rattle.laws.specs.Each.{Each}
 use Rattle.quantities.specs.Row.{rowOf, noRow}
 use Rattle.quantities.specs.Table.{rowsOf}
-use Rattle.quantities.specs.Checks.{rowChecks, rowsChecks, listChecks, firstFailing, faultFrom, listFault}
+use Rattle.laws.specs.Checks.{firstFailing}
+use Rattle.quantities.specs.Checks.{rowChecks, rowsChecks, listChecks, faultFrom, listFault}
 use Rattle.quantities.specs.declared.Table.{Table}
 use Rattle.windows.specs.Window.{plain, carry, limit, interference}
 use Rattle.windows.specs.Choice.{most, passes}
@@ -24,7 +25,7 @@ use Rattle.bench.specs.declared.Bench.{Bench}
 use Rattle.bench.specs.declared.Finish.{Finish}
 use Rattle.bench.specs.declared.Outcome.the-variants.{Taken}
 use Rattle.bench.specs.Record.{lastBroken, rowBroken, rowsBroken, isFault, broken}
-use Rattle.bench.specs.Refusal.{firstRefusal, tooSoon, releaseTests, tickTests}
+use Rattle.bench.specs.Refusal.{tooSoon, releaseTests, tickTests}
 use Rattle.bench.specs.Serving.{unit, units, less, worked, ends, since, finishOf, finished}
 use Rattle.bench.specs.Step.{Step, emptyBench, openedAfter, opened, unless, started, release, served, moved, taken, tick}
 use Rattle.bench.specs.History.{Call, releases, ticks, doCall, after}
@@ -65,7 +66,7 @@ b = record { cores = 1; table = board; now = record { 0 = 1 }; states = just-rel
 
 released-one : release (tick start .bench) 1 1 .bench ≡ b
 unfolding rowsOf rowChecks rowsChecks listChecks firstFailing faultFrom listFault lastBroken rowBroken
-    rowsBroken isFault broken firstRefusal tooSoon releaseTests tickTests unit units less worked ends since
+    rowsBroken isFault broken tooSoon releaseTests tickTests unit units less worked ends since
     finishOf finished unless started release served moved taken tick
 released-one = refl
 
@@ -82,7 +83,7 @@ ticks-rightly : (stateOn (tick b .bench) 1 .left .0 ≡ 0)
     × (tick b .finishes ≡ poll 1 ∷ [])
     × (tick b .bench .now .0 ≡ 2)
 unfolding rowsOf rowChecks rowsChecks listChecks firstFailing faultFrom listFault lastBroken rowBroken
-    rowsBroken isFault broken firstRefusal tickTests unit units less worked ends since finishOf finished unless
+    rowsBroken isFault broken tickTests unit units less worked ends since finishOf finished unless
     served moved taken tick
 ticks-rightly = (refl, refl, refl)
 

@@ -6,7 +6,8 @@ use mathlib.Core.List.{List, [], _∷_, _++_}
 use lib.ListN.{getD, replicate}
 use Rattle.quantities.specs.declared.Row.{Row}
 use Rattle.quantities.specs.Row.{rowOf}
-use Rattle.quantities.specs.Checks.{rowChecks, rowsChecks, listChecks, firstFailing, faultFrom, listFault}
+use Rattle.laws.specs.Checks.{firstFailing}
+use Rattle.quantities.specs.Checks.{rowChecks, rowsChecks, listChecks, faultFrom, listFault}
 use Rattle.quantities.specs.Table.{rowsOf, emptyTable, withRow}
 use Rattle.windows.specs.declared.Answer.the-variants.{Shown}
 use Rattle.windows.specs.Window.{plain, carry, limit, interference}

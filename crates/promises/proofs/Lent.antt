@@ -8,12 +8,14 @@ use mathlib.Core.List.{List, _++_}
 use lib.ListN.{length, drop, replicate, length-map, length-append, length-drop, length-replicate, take-append-drop}
 use lib.Seq.{take-append-seam, drop-append-seam}
 use Rattle.laws.specs.Each.{Each}
+use Rattle.quantities.specs.Paper.{faultPaper}
 use Rattle.quantities.specs.declared.Row.{Row}
 use Rattle.quantities.specs.declared.Fault.{Fault}
 use Rattle.quantities.specs.declared.Fault.the-variants.{WholeList}
 use Rattle.quantities.specs.declared.Ticks.{Ticks}
 use Rattle.quantities.specs.Limits.{rowCapacity}
-use Rattle.quantities.specs.Checks.{FirstFailing, listChecks, roomChecks, listFault, lentFault}
+use Rattle.laws.specs.Checks.{FirstFailing}
+use Rattle.quantities.specs.Checks.{listChecks, roomChecks, listFault, lentFault}
 use Rattle.quantities.specs.Lengths.{numbers, inArray}
 use Rattle.quantities.proofs.Checks.{lent-fault-list, lent-fault-short}
 use Rattle.quantities.proofs.Paper.{fault-first}
@@ -110,10 +112,10 @@ module _ (cores : ℕ) (rows : List Row) (before after after′ : List ℕ) (ans
   unfolding lentFault
   one-turned fault found =
       let first = fault-first (listChecks cores rows ++ roomChecks (length before) rows) fault found in
-      let failing : FirstFailing (lentOrder cores (length before) rows) (first .one)
-      = rw (lent-order cores (length before) rows) (first .first) in
-      let turned = by-rules .faulty (first .one) failing in
-      let turned′ = by-rules′ .faulty (first .one) failing in
+      let failing : FirstFailing (lentOrder cores (length before) rows) (faultPaper fault)
+      = rw (lent-order cores (length before) rows) first in
+      let turned = by-rules .faulty (faultPaper fault) failing in
+      let turned′ = by-rules′ .faulty (faultPaper fault) failing in
       (turned .same-list ∙ sym (turned′ .same-list), turned .answers ∙ sym (turned′ .answers))
 
   -- the first entries are the bounds, and the later ones are as they were

@@ -10,10 +10,12 @@ use Rattle.laws.proofs.Tests.{not-one}
 use Rattle.quantities.specs.declared.Row.{Row}
 use Rattle.quantities.specs.declared.Fault.{Fault}
 use Rattle.quantities.specs.Row.{SoundRow, rowOf}
-use Rattle.quantities.specs.Paper.{paper, faultPaper}
-use Rattle.quantities.specs.Checks.{Check, check, rowChecks, rowsChecks, listChecks, roomChecks, firstFailing, faultFrom}
-use Rattle.quantities.specs.Checks.{isLast, FirstFailing, SoundList, listFault}
-use Rattle.quantities.proofs.Sound.{first-found, sound-list-means}
+use Rattle.quantities.specs.Paper.{Paper, paper, faultPaper}
+use Rattle.laws.specs.Checks.{Check, firstFailing, FirstFailing}
+use Rattle.quantities.specs.Checks.{check, rowChecks, rowsChecks, listChecks, roomChecks, faultFrom}
+use Rattle.quantities.specs.Checks.{isLast, SoundList, listFault}
+use Rattle.laws.proofs.Checks.{first-found}
+use Rattle.quantities.proofs.Sound.{sound-list-means}
 use Rattle.quantities.proofs.SoundRows.{sound-rows-each, each-sound-rows}
 use Rattle.quantities.proofs.Paper.{fault-first}
 use Rattle.quantities.proofs.Checks.{list-fault-many-rows, list-fault-many-cores, list-fault-rows, row-fault-6, rows-fault-here}
@@ -43,7 +45,7 @@ pub rows-order : (place : ℕ) (rows : List Row) → rowsOrder place rows ≡ ro
 unfolding rowChecks rowsChecks
 rows-order place [] = refl
 rows-order place (row ∷ rows) =
-    ap (λ (later : List Check). rowChecks place (isLast rows) row ++ later) (rows-order (suc place) rows)
+    ap (λ (later : List (Check Paper)). rowChecks place (isLast rows) row ++ later) (rows-order (suc place) rows)
 
 pub list-order : (cores : ℕ) (rows : List Row) → listOrder cores rows ≡ listChecks cores rows
 unfolding listChecks
@@ -53,16 +55,16 @@ pub lent-order : (cores entries : ℕ) (rows : List Row)
     → lentOrder cores entries rows ≡ listChecks cores rows ++ roomChecks entries rows
 unfolding roomChecks
 lent-order cores entries rows =
-    ap (λ (checks : List Check). checks ++ roomChecks entries rows) (list-order cores rows)
+    ap (λ (checks : List (Check Paper)). checks ++ roomChecks entries rows) (list-order cores rows)
 
 -- a failed check as a fault, and that fault on paper
-pub fault-from : (one : Check) → faultFrom (some one) ≡ some (faultAt (one .number) (one .place))
+pub fault-from : (one : Paper) → faultFrom (some one) ≡ some (faultAt (one .number) (one .place))
 unfolding faultFrom
-fault-from one = at (one .number) (one .place) (one .fails)
+fault-from one = at (one .number) (one .place)
   where
-    at : (number place : ℕ) (fails : Bool) → faultFrom (some (check number place fails)) ≡ some (faultAt number place)
-    at number zero fails = refl
-    at number (suc p) fails = refl
+    at : (number place : ℕ) → faultFrom (some (paper number place)) ≡ some (faultAt number place)
+    at number zero = refl
+    at number (suc p) = refl
 
 pub fault-on-paper : (number place : ℕ) → faultPaper (faultAt number place) ≡ paper number place
 unfolding faultPaper
@@ -70,12 +72,12 @@ fault-on-paper number zero = refl
 fault-on-paper number (suc p) = refl
 
 -- the fault of checks of which one is the first that fails
-pub fault-of-first : (checks : List Check) (one : Check) → FirstFailing checks one
+pub fault-of-first : (checks : List (Check Paper)) (one : Paper) → FirstFailing checks one
     → faultFrom (firstFailing checks) ≡ some (faultAt (one .number) (one .place))
 fault-of-first checks one first = ap faultFrom (first-found checks one first) ∙ fault-from one
 
 -- an answer with that fault is turned away by that check
-pub turned-by : (one : Check) (j : Judged)
+pub turned-by : (one : Paper) (j : Judged)
     → j ≡ record { answer = Refused (faultAt (one .number) (one .place)); bounds = [] } → TurnedAwayBy one j
 unfolding answerPaper
 turned-by one j e =

@@ -7,7 +7,7 @@ use mathlib.Core.List.{List, [], _∷_, map}
 use lib.ListN.{length, getD, take}
 use Rattle.laws.specs.Each.{Each}
 use Rattle.laws.proofs.Lists.{each-map}
-use Rattle.quantities.proofs.Sound.{none-fails, none-found}
+use Rattle.laws.proofs.Checks.{none-fails, none-found}
 use Rattle.bench.specs.declared.Bench.{Bench}
 use Rattle.bench.specs.declared.Last.{Last}
 use Rattle.bench.specs.declared.Last.the-variants.{At}

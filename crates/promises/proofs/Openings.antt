@@ -8,13 +8,16 @@ use lib.Dec.{eqb}
 use lib.ListN.{length, replicate, length-append, length-replicate}
 use lib.Seq.{take-append-seam, drop-append-seam}
 use borrow.Author.Tests.{eq-eqb, ne-eqb}
+use Rattle.laws.specs.Checks.{firstFailing}
+use Rattle.laws.proofs.Checks.{failing-behind}
+use Rattle.quantities.specs.Paper.{paper}
 use Rattle.quantities.specs.Table.{rowsOf, emptyTable}
 use Rattle.quantities.specs.Checks.{check, listFault, listChecks, checkedOf}
 use Rattle.bench.specs.declared.Bench.{Bench}
 use Rattle.bench.specs.declared.Refusal.{Refusal}
 use Rattle.bench.specs.declared.Finish.{Finish}
 use Rattle.bench.specs.Record.{broken}
-use Rattle.bench.specs.Refusal.{refusalPaper, paperOf, firstRefusal, releaseTests, tickTests, outcomeOf}
+use Rattle.bench.specs.Refusal.{refusalPaper, paperOf, releaseTests, tickTests, outcomeOf}
 use Rattle.bench.specs.Ended.{noFinish, finishesOf}
 use Rattle.bench.specs.Step.{emptyBench, noBench, openingOf, release, taken, tick, releasedOf, tickedOf}
 use Rattle.bench.specs.History.{Call, ticks, doCall, after}
@@ -90,14 +93,9 @@ clock-to-1000000000 cores table start o calls =
     let whole = whole-unbroken b (kept .whole) in (
       (λ early. call-taken b ticks (whole, (ne-eqb (b .now .0) 1000000000 (λ e. omega arith), tt))),
       λ end.
-          call-turned-away b ticks (check 24 0 (eqb (b .now .0) 1000000000))
-          (record {
-            before = check 29 0 (broken b) ∷ [];
-            after = [];
-            stands = refl;
-            failed = eq-eqb (b .now .0) 1000000000 end;
-            passed = (whole, tt);
-          }),
+          call-turned-away b ticks (paper 24 0)
+          (failing-behind (check 29 0 (broken b) ∷ []) [] (paper 24 0) (eqb (b .now .0) 1000000000)
+          (eq-eqb (b .now .0) 1000000000 end) (whole, tt)),
     )
 
 -- The list of polls in the answer of a tick.
@@ -118,14 +116,14 @@ ended-listed = (polls-listed, λ b. polls-listed (tick b .finishes) (polls-few b
 
 -- what a judge says of a call is the call's outcome
 judged-release : (b : Bench) (place demand : ℕ) (found : Option Refusal)
-    → firstRefusal (releaseTests b place demand) ≡ found
-    → outcomeOf (firstRefusal (releaseTests b place demand)) ≡ release b place demand .outcome
+    → firstFailing (releaseTests b place demand) ≡ found
+    → outcomeOf (firstFailing (releaseTests b place demand)) ≡ release b place demand .outcome
 unfolding outcomeOf
 judged-release b place demand none q = rw (q, release-taken b place demand q)
 judged-release b place demand (some why) q = rw (q, release-refused b place demand why q)
 
-judged-tick : (b : Bench) (found : Option Refusal) → firstRefusal (tickTests b) ≡ found
-    → outcomeOf (firstRefusal (tickTests b)) ≡ tick b .outcome
+judged-tick : (b : Bench) (found : Option Refusal) → firstFailing (tickTests b) ≡ found
+    → outcomeOf (firstFailing (tickTests b)) ≡ tick b .outcome
 unfolding outcomeOf taken
 judged-tick b none q = rw (q, tick-taken b q)
 judged-tick b (some why) q = rw (q, tick-refused b why q)
@@ -136,8 +134,8 @@ calls-answered =
     record {
       last-instant = refl;
       judge-release = λ b place demand.
-          judged-release b place demand (firstRefusal (releaseTests b place demand)) refl;
-      judge-tick = λ b. judged-tick b (firstRefusal (tickTests b)) refl;
+          judged-release b place demand (firstFailing (releaseTests b place demand)) refl;
+      judge-tick = λ b. judged-tick b (firstFailing (tickTests b)) refl;
       to-release = λ step. refl;
       to-tick = λ step. refl;
     }

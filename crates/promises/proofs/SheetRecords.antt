@@ -10,7 +10,10 @@ use lib.ListN.{length}
 use borrow.Author.Tests.{ne-eqb, lt-ltb, le-ltb, lt-leb, eqb-true, not-true}
 use Rattle.laws.proofs.Tests.{and-true}
 use Rattle.sheet.specs.Reader.{readOf}
-use Rattle.quantities.specs.Checks.{Check, check}
+use Rattle.laws.specs.Checks.{Check}
+use Rattle.laws.proofs.Checks.{failing-behind}
+use Rattle.quantities.specs.Paper.{Paper, paper}
+use Rattle.quantities.specs.Checks.{check}
 use Rattle.records.specs.Bytes.{numberAfter, field}
 use Rattle.records.specs.Records.{recordLength, rowFields, recordOn, kindOf, isEnd}
 use Rattle.records.specs.declared.Record.the-variants.{Board, Row}
@@ -147,15 +150,9 @@ module _ (cores tick label priority c d t : ℕ) (some : 0 < tick) where
     one-row-refused : TurnedAway 16 4 (readOf sheet)
     one-row-refused =
         let before = commonOrder sheet 4 false ++ (check 14 4 false ∷ []) in
-        sheet-turned-away sheet (check 16 4 (eqb (priorityAt sheet 4) 0 || ltb 999 (priorityAt sheet 4)))
+        sheet-turned-away sheet (paper 16 4)
         (after-rows 0 board-passes
-        (record {
-          before = before;
-          after = _;
-          stands = refl;
-          failed = fails;
-          passed = (refl, (refl, (refl, (refl, (refl, tt)))));
-        }))
+        (failing-behind before _ (paper 16 4) _ fails (refl, (refl, (refl, (refl, (refl, tt)))))))
 
 pub priorities-to-999 : PrioritiesTo999
 priorities-to-999 =
@@ -180,22 +177,21 @@ row-records-to-32 sheet passed kind long =
     rw kind refl in
     let byte-there = lt-leb (length sheet) 548 (omega arith) in
     let fits = le-ltb (length sheet) 565 long in
-    sheet-turned-away sheet (check 14 548 true)
+    sheet-turned-away sheet (paper 14 548)
     (after-rows 32 passed
     (record {
       before = commonOrder sheet 548 (eqb (byte sheet 548) 1);
       after = _;
       stands = checks;
-      failed = refl;
       passed = (byte-there, (rw kind refl, (rw kind refl, (rw kind fits, tt))));
     }))
 
 -- The checks of the board record and of so many rows as one test, which is computed.
-passes : List Check → Bool
+passes : List (Check Paper) → Bool
 passes [] = true
 passes (one ∷ checks) = not (one .fails) && passes checks
 
-passes-all : (checks : List Check) → passes checks ≡ true → AllPass checks
+passes-all : (checks : List (Check Paper)) → passes checks ≡ true → AllPass checks
 unfolding passes
 passes-all [] e = tt
 passes-all (one ∷ checks) e =

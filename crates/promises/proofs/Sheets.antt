@@ -16,10 +16,12 @@ use Rattle.laws.specs.Each.{Each}
 use Rattle.laws.specs.Permuted.{Permuted, both}
 use Rattle.laws.proofs.Lists.{each-at}
 use Rattle.laws.proofs.Permuted.{permuted-back}
-use Rattle.quantities.specs.Checks.{Check, check, firstFailing}
+use Rattle.laws.specs.Checks.{firstFailing}
+use Rattle.quantities.specs.Paper.{Paper, paper}
+use Rattle.quantities.specs.Checks.{check}
 use Rattle.quantities.specs.Table.{rowsOf, emptyTable, withRow}
 use Rattle.quantities.specs.declared.Table.{Table}
-use Rattle.quantities.proofs.Sound.{none-fails, first-failing}
+use Rattle.laws.proofs.Checks.{none-fails, first-failing, failing-behind}
 use Rattle.quantities.specs.Row.{rowOf}
 use Rattle.quantities.specs.declared.Micros.{Micros}
 use Rattle.records.specs.Records.{isEnd}
@@ -120,7 +122,7 @@ sheet-taken sheet n w = ap (λ (o : Outcome). o .verdict) (sym (answer-whole she
 -- Every sheet: its records fail no check, one after the other, until one fails or the end record is taken.
 module _ (sheet : List ℕ) where
   abbrev Either : Type 0
-  Either = ((n : ℕ) × WholeWith sheet n) ⊎ ((one : Check) × FirstFault sheet one)
+  Either = ((n : ℕ) × WholeWith sheet n) ⊎ ((one : Paper) × FirstFault sheet one)
 
   third : (a b c : Bool) → (a || b || c) ≡ true → a ≡ false → b ≡ false → c ≡ true
   third a b c any p q = rw (p, q) at any
@@ -144,7 +146,7 @@ module _ (sheet : List ℕ) where
   either-from (suc limit) n enough passed =
       go (firstFailing (laterOrder sheet n)) refl (either-from limit (suc n) (omega arith))
     where
-      go : (found : Option Check) → firstFailing (laterOrder sheet n) ≡ found
+      go : (found : Option Paper) → firstFailing (laterOrder sheet n) ≡ found
           → (RowsPass sheet (suc n) → Either) → Either
       go none q later =
           let all = none-fails (laterOrder sheet n) q in
@@ -154,7 +156,7 @@ module _ (sheet : List ℕ) where
           ]
       go (some one) q later = inr (one, after-rows n passed (first-failing (laterOrder sheet n) one q))
 
-  either : (found : Option Check) → firstFailing (boardOrder sheet) ≡ found → Either
+  either : (found : Option Paper) → firstFailing (boardOrder sheet) ≡ found → Either
   either none q = either-from 33 0 (omega arith) (none-fails (boardOrder sheet) q)
   either (some one) q = inr (one, at-the-board (first-failing (boardOrder sheet) one q))
 
@@ -164,14 +166,14 @@ sheet-either sheet = either sheet (firstFailing (boardOrder sheet)) refl
 pub taken-sheet-is-whole : TakenSheetIsWhole
 taken-sheet-is-whole sheet sound = ⊎-elim (λ whole. whole) (λ fault. absurd (not-both fault)) (sheet-either sheet)
   where
-    not-both : (one : Check) × FirstFault sheet one → ⊥
+    not-both : (one : Paper) × FirstFault sheet one → ⊥
     not-both (one, fault) =
         sound-not-refused (one .number) (one .place) (sym (sheet-turned-away sheet one fault .answers) ∙ sound)
 
 pub refused-sheet-has-fault : RefusedSheetHasFault
 refused-sheet-has-fault sheet number place e = go (sheet-either sheet)
   where
-    go : Either sheet → (one : Check) × FirstFault sheet one × (one .number ≡ number) × (one .place ≡ place)
+    go : Either sheet → (one : Paper) × FirstFault sheet one × (one .number ≡ number) × (one .place ≡ place)
     go (inl (n, w)) = absurd (sound-not-refused number place (sym e ∙ sheet-taken sheet n w))
     go (inr (one, fault)) =
         let answers = sheet-turned-away sheet one fault .answers in
@@ -185,11 +187,11 @@ no-byte-at-the-end =
       behind-rows =
           λ sheet n passed ends.
           let none : leb (length sheet) (behind n) ≡ true = le-leb (length sheet) (behind n) (omega arith) in
-          sheet-turned-away sheet (check 11 (length sheet) (leb (length sheet) (behind n)))
-          (after-rows n passed (record { before = []; after = _; stands = refl; failed = none; passed = tt }));
+          sheet-turned-away sheet (paper 11 (length sheet))
+          (after-rows n passed (failing-behind [] _ (paper 11 (length sheet)) _ none tt));
       empty =
-          sheet-turned-away [] (check 11 0 true)
-          (at-the-board (record { before = []; after = _; stands = refl; failed = refl; passed = tt }));
+          sheet-turned-away [] (paper 11 0)
+          (at-the-board (record { before = []; after = _; stands = refl; passed = tt }));
     }
 
 -- Entries that rise, in the words of the page and in the reader's own.

@@ -10,7 +10,9 @@ use lib.Dec.{eqb, leb, ltb}
 use lib.ListN.{length, getD, drop, length-drop}
 use lib.Seq.{getD-drop}
 use borrow.Author.Tests.{lt-ltb, le-ltb, le-leb, lt-leb}
-use Rattle.quantities.specs.Checks.{Check, check}
+use Rattle.laws.specs.Checks.{Check}
+use Rattle.quantities.specs.Paper.{Paper}
+use Rattle.quantities.specs.Checks.{check}
 use Rattle.quantities.specs.declared.Micros.{Micros}
 use Rattle.records.specs.Bytes.{field}
 use Rattle.records.specs.Records.{recordLength, rowFields, recordOn}
@@ -88,12 +90,12 @@ abbrev known : ℕ → Bool
 known kind = eqb kind 1 || eqb kind 2 || eqb kind 3
 
 -- The checks that each record begins with, by the first that fails; else those behind them decide.
-module _ (sheet : List ℕ) (at : ℕ) (wrong : Bool) (rest : List Check) where
+module _ (sheet : List ℕ) (at : ℕ) (wrong : Bool) (rest : List (Check Paper)) where
   no-byte : length sheet ≤ at → verdictOf (commonOrder sheet at wrong ++ rest) ≡ Refused 11 (length sheet)
   no-byte h = verdict-fails 11 (length sheet) _ _ (le-leb (length sheet) at h)
 
   module _ (some : at < length sheet) where
-    some-byte : (later : List Check)
+    some-byte : (later : List (Check Paper))
         → verdictOf (check 11 (length sheet) (leb (length sheet) at) ∷ later) ≡ verdictOf later
     some-byte later = verdict-passes 11 (length sheet) _ later (lt-leb (length sheet) at some)
 
@@ -101,7 +103,7 @@ module _ (sheet : List ℕ) (at : ℕ) (wrong : Bool) (rest : List Check) where
     no-kind e = some-byte _ ∙ verdict-fails 12 at _ _ (ap not e)
 
     module _ (is : known (byte sheet at) ≡ true) where
-      a-kind : (later : List Check)
+      a-kind : (later : List (Check Paper))
           → verdictOf (check 12 at (not (known (byte sheet at))) ∷ later) ≡ verdictOf later
       a-kind later = verdict-passes 12 at _ later (ap not is)
 
@@ -150,7 +152,7 @@ of-length kind some =
     go false false false h = absurd (omega arith)
 
 -- A record that is cut short, where it may stand and where it may not.
-cut-verdict : (sheet : List ℕ) (at left : ℕ) (reading : Reading) (wrong : Bool) (rest : List Check)
+cut-verdict : (sheet : List ℕ) (at left : ℕ) (reading : Reading) (wrong : Bool) (rest : List (Check Paper))
     → at < length sheet → length sheet < at + recordLength (byte sheet at) → misplaced (reading .begun) (byte sheet at) ≡ wrong
     → verdictOf (commonOrder sheet at wrong ++ rest)
     ≡ verdictOf (recordChecks at left reading (Cut (byte sheet at)))
@@ -184,7 +186,7 @@ module _ (sheet : List ℕ) where
       wrong : Bool
       wrong = not (eqb (byte sheet 0) 1)
 
-      rest : List Check
+      rest : List (Check Paper)
       rest = check 19 0 (eqb (tickOf sheet) 0) ∷ []
 
       go : (one : Record) → Found sheet one
@@ -267,7 +269,7 @@ module _ (sheet : List ℕ) (n cores : ℕ) (tick : Micros) (entries : List Entr
       wrong : Bool
       wrong = eqb (byte sheet (behind n)) 1
 
-      rest : List Check
+      rest : List (Check Paper)
       rest = cond (eqb (byte sheet (behind n)) 2) (rowOrder sheet n) (endOrder sheet n)
 
       long-part : length part ≡ length sheet - behind n

@@ -11,11 +11,14 @@ use borrow.Author.Tests.{le-ltb}
 use lib.ListN.{length, getD, length-map, length-take}
 use lib.Seq.{getD-take}
 use Rattle.laws.proofs.Tests.{not-one}
+use Rattle.quantities.specs.Paper.{Paper, faultPaper}
 use Rattle.quantities.specs.declared.Row.{Row}
 use Rattle.quantities.specs.declared.Fault.{Fault}
-use Rattle.quantities.specs.Checks.{Check, FirstFailing, listFault, listChecks}
+use Rattle.laws.specs.Checks.{Check, FirstFailing}
+use Rattle.quantities.specs.Checks.{listFault, listChecks}
 use Rattle.quantities.specs.Table.{rowsOf}
-use Rattle.quantities.proofs.Sound.{first-found, sound-list-means}
+use Rattle.laws.proofs.Checks.{first-found}
+use Rattle.quantities.proofs.Sound.{sound-list-means}
 use Rattle.quantities.proofs.Paper.{fault-first}
 use Rattle.windows.specs.declared.Answer.{Answer}
 use Rattle.windows.specs.declared.Answer.the-variants.{Shown, NotShown}
@@ -160,10 +163,10 @@ module _ (s : Sheet) (table : rowsOf (tableOf s) ≡ rowsIn (entriesOf s)) where
   unfolding listFault judgedText
   text-faulty fault q =
       let found = fault-first (listChecks (s .cores) rows) fault q in
-      turned-away (found .one) (rw (list-order (s .cores) rows) (found .first))
+      turned-away (faultPaper fault) (rw (list-order (s .cores) rows) found)
       (text-judged
       ∙ ap (judgedText s rows) (judged-faulty (s .cores) rows fault q)
-      ∙ rw (found .is) (refused-text (found .one .number) (found .one .place)))
+      ∙ refused-text (faultPaper fault .number) (faultPaper fault .place))
 
   text-shown : ListInRange (s .cores) rows → JudgedBy (s .cores) rows j → EveryRowShown rows j
       → TextOf (s .cores) (s .tick .0) (entriesOf s) (sheetText s)
@@ -222,11 +225,11 @@ goes-the-whole-way =
 -- judgement.
 module _ (cores tick : ℕ) (entries : List Entry) where
   -- a list that is turned away is not in range
-  not-both : (first : Check) → FirstFailing (listOrder cores (rowsIn entries)) first → ListInRange cores (rowsIn entries) → ⊥
+  not-both : (first : Paper) → FirstFailing (listOrder cores (rowsIn entries)) first → ListInRange cores (rowsIn entries) → ⊥
   not-both first failing range =
       in-range-taken cores (rowsIn entries) range _ (faulty-list-turned-away cores (rowsIn entries) first failing .answers)
 
-  same-first : (a b : Check) → FirstFailing (listOrder cores (rowsIn entries)) a
+  same-first : (a b : Paper) → FirstFailing (listOrder cores (rowsIn entries)) a
       → FirstFailing (listOrder cores (rowsIn entries)) b → a ≡ b
   same-first a b p q =
       let found : some a ≡ some b =
@@ -235,7 +238,7 @@ module _ (cores tick : ℕ) (entries : List Entry) where
 
   one-text : (a b : List ℕ) → TextOf cores tick entries a → TextOf cores tick entries b → a ≡ b
   one-text a b (turned-away first p e) (turned-away other q f) =
-      e ∙ ap (λ (one : Check). refusedText (one .number) (one .place)) (same-first first other p q) ∙ sym f
+      e ∙ ap (λ (one : Paper). refusedText (one .number) (one .place)) (same-first first other p q) ∙ sym f
   one-text a b (turned-away first p e) (all-shown bounds range q f) = absurd (not-both first p range)
   one-text a b (turned-away first p e) (not-shown before bounds range q f) = absurd (not-both first p range)
   one-text a b (all-shown bounds range q f) (turned-away first p e) = absurd (not-both first p range)
@@ -262,7 +265,7 @@ pub one-text-printed : OneText
 one-text-printed tool goes sheet =
     ⊎-elim
     (λ (w : (n : ℕ) × WholeWith sheet n). same (w .0) (goes .whole sheet (w .0) (w .1)) (whole-way sheet (w .0) (w .1)))
-    (λ (f : (first : Check) × FirstFault sheet first).
+    (λ (f : (first : Paper) × FirstFault sheet first).
     goes .faulty sheet (f .0) (f .1) ∙ sym (goes-the-whole-way .faulty sheet (f .0) (f .1)))
     (sheet-either sheet)
   where

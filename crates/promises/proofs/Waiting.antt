@@ -6,6 +6,7 @@ use mathlib.Core.Path.{_≡_, refl, sym, ap, _∙_}
 use mathlib.Core.Logic.{_⊎_, inl, inr}
 use mathlib.Core.Option.{Option, none, some}
 use lib.ListN.{getD}
+use Rattle.laws.specs.Checks.{firstFailing}
 use Rattle.laws.proofs.Lists.{each-map}
 use Rattle.quantities.specs.declared.Instant.{Instant}
 use Rattle.quantities.proofs.Rows.{length-rows}
@@ -17,7 +18,7 @@ use Rattle.bench.specs.declared.Refusal.{Refusal}
 use Rattle.bench.specs.declared.Finish.{Finish}
 use Rattle.bench.specs.declared.Outcome.the-variants.{Taken}
 use Rattle.bench.specs.Record.{stateAt, work}
-use Rattle.bench.specs.Refusal.{firstRefusal, releaseTests, tickTests}
+use Rattle.bench.specs.Refusal.{releaseTests, tickTests}
 use Rattle.bench.specs.Serving.{less}
 use Rattle.bench.specs.Step.{Step, started, release, served, moved, taken, tick}
 use Rattle.bench.specs.TickRule.{Gets, PollEnds, TickRule}
@@ -59,9 +60,9 @@ module _ (place released : ℕ) (first : 1 ≤ place) (b : Bench) (kept : Kept b
   -- A release changes nothing of it: one of the same row is refused.
   pub release-waits : (other demand : ℕ) → WaitsOn place released (release b other demand)
   unfolding started
-  release-waits other demand = go (firstRefusal (releaseTests b other demand)) refl
+  release-waits other demand = go (firstFailing (releaseTests b other demand)) refl
     where
-      go : (found : Option Refusal) → firstRefusal (releaseTests b other demand) ≡ found
+      go : (found : Option Refusal) → firstFailing (releaseTests b other demand) ≡ found
           → WaitsOn place released (release b other demand)
       go none e =
           let may = may-release b other demand e in
@@ -153,9 +154,9 @@ module _ (place released : ℕ) (first : 1 ≤ place) (b : Bench) (kept : Kept b
 
   -- and so does a tick that is refused.
   pub tick-goes : EndsNow place released (tick b) ⊎ WaitsOn place released (tick b)
-  tick-goes = go (firstRefusal (tickTests b)) refl
+  tick-goes = go (firstFailing (tickTests b)) refl
     where
-      go : (found : Option Refusal) → firstRefusal (tickTests b) ≡ found
+      go : (found : Option Refusal) → firstFailing (tickTests b) ≡ found
           → EndsNow place released (tick b) ⊎ WaitsOn place released (tick b)
       go none e = rw (tick-taken b e) taken-goes
       go (some why) e = rw (tick-refused b why e) (inr (record { waits = waits; none-listed = tt }))
@@ -164,9 +165,9 @@ module _ (place released : ℕ) (first : 1 ≤ place) (b : Bench) (kept : Kept b
 pub lists-moves : (b : Bench) (place released : ℕ) → EndsNow place released (tick b)
     → tick b .bench .now .0 ≡ suc (b .now .0)
 unfolding taken moved
-lists-moves b place released now = go (firstRefusal (tickTests b)) refl
+lists-moves b place released now = go (firstFailing (tickTests b)) refl
   where
-    go : (found : Option Refusal) → firstRefusal (tickTests b) ≡ found
+    go : (found : Option Refusal) → firstFailing (tickTests b) ≡ found
         → tick b .bench .now .0 ≡ suc (b .now .0)
     go none e = rw (tick-taken b e) refl
     go (some why) e =
@@ -177,9 +178,9 @@ lists-moves b place released now = go (firstRefusal (tickTests b)) refl
 pub starts : (b : Bench) (place demand : ℕ) → Kept b → release b place demand .outcome ≡ Taken
     → Waits place (b .now .0) (release b place demand .bench)
 unfolding started
-starts b place demand kept is = go (firstRefusal (releaseTests b place demand)) refl
+starts b place demand kept is = go (firstFailing (releaseTests b place demand)) refl
   where
-    go : (found : Option Refusal) → firstRefusal (releaseTests b place demand) ≡ found
+    go : (found : Option Refusal) → firstFailing (releaseTests b place demand) ≡ found
         → Waits place (b .now .0) (release b place demand .bench)
     go none e =
         let may = may-release b place demand e in

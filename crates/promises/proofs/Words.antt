@@ -10,83 +10,68 @@ use Rattle.laws.specs.Each.{Each}
 use Rattle.laws.specs.Member.{Member}
 use Rattle.laws.proofs.Lists.{each-at}
 use Rattle.laws.proofs.Permuted.{permuted-back, permuted-length, permuted-member}
-use Rattle.quantities.specs.Checks.{Check, check, FirstFailing}
-use Rattle.quantities.specs.Paper.{Paper, FirstOf, checkedPaper}
+use Rattle.laws.specs.Checks.{Check, NoneFails, FirstFailing}
+use Rattle.quantities.specs.Checks.{check}
+use Rattle.quantities.specs.Paper.{Paper, checkedPaper}
 use Rattle.windows.specs.Answer.{answerPaper}
 use Rattle.sheet.specs.Reader.{paperOf as sheetPaper}
-use Rattle.promises.specs.Words.{FirstAt, FirstHas, FirstMeans, EachMeans, StandsIn, MemberMeans, PermutedMeans}
+use Rattle.promises.specs.Words.{FirstAt, FirstMeans, EachMeans, StandsIn, MemberMeans, PermutedMeans}
 use Rattle.promises.specs.Words.{NothingRefused, WordsMean}
 
 -- The first check that fails, from the front.
-abbrev blank : Check
+abbrev blank : Check Paper
 blank = check 0 0 false
 
-behind : (before : List Check) (one : Check) (after : List Check) → one .fails ≡ true
-    → Each (λ (c : Check). c .fails ≡ false) before → FirstAt (before ++ one ∷ after) one
-behind [] one after failed passed =
-    record { index = 0; within = omega arith; stands = refl; failed = failed; passed = λ earlier h. absurd (omega arith) }
-behind (head ∷ before) one after failed passed = later (behind before one after failed (passed .1))
+abbrev failed : Paper → Check Paper
+failed told = check (told .number) (told .place) true
+
+behind : (before : List (Check Paper)) (told : Paper) (after : List (Check Paper)) → NoneFails before
+    → FirstAt (before ++ failed told ∷ after) told
+behind [] told after passed =
+    record { index = 0; within = omega arith; stands = refl; passed = λ earlier h. absurd (omega arith) }
+behind (head ∷ before) told after passed = later (behind before told after (passed .1))
   where
-    at : (tail : FirstAt (before ++ one ∷ after) one) (earlier : ℕ) → earlier < suc (tail .index)
-        → getD (head ∷ (before ++ one ∷ after)) earlier blank .fails ≡ false
+    at : (tail : FirstAt (before ++ failed told ∷ after) told) (earlier : ℕ) → earlier < suc (tail .index)
+        → getD (head ∷ (before ++ failed told ∷ after)) earlier blank .fails ≡ false
     at tail zero h = passed .0
     at tail (suc earlier) h = tail .passed earlier (omega arith)
 
-    later : FirstAt (before ++ one ∷ after) one → FirstAt (head ∷ (before ++ one ∷ after)) one
+    later : FirstAt (before ++ failed told ∷ after) told → FirstAt (head ∷ (before ++ failed told ∷ after)) told
     later tail =
         record {
           index = suc (tail .index);
           within = omega (arith, tail .within);
           stands = tail .stands;
-          failed = failed;
           passed = at tail;
         }
 
-from-front : (checks : List Check) (one : Check) (index : ℕ) → index < length checks → getD checks index blank ≡ one
-    → one .fails ≡ true → ((earlier : ℕ) → earlier < index → getD checks earlier blank .fails ≡ false)
-    → FirstFailing checks one
-from-front [] one index within stands failed passed = absurd (omega arith)
-from-front (head ∷ rest) one zero within stands failed passed =
-    record { before = []; after = rest; stands = ap (λ (c : Check). c ∷ rest) stands; failed = failed; passed = tt }
-from-front (head ∷ rest) one (suc index) within stands failed passed =
-    let tail = from-front rest one index (omega arith) stands failed (λ earlier h. passed (suc earlier) (omega arith)) in
+from-front : (checks : List (Check Paper)) (told : Paper) (index : ℕ) → index < length checks
+    → getD checks index blank ≡ failed told
+    → ((earlier : ℕ) → earlier < index → getD checks earlier blank .fails ≡ false)
+    → FirstFailing checks told
+from-front [] told index within stands passed = absurd (omega arith)
+from-front (head ∷ rest) told zero within stands passed =
+    record { before = []; after = rest; stands = ap (λ (c : Check Paper). c ∷ rest) stands; passed = tt }
+from-front (head ∷ rest) told (suc index) within stands passed =
+    let tail = from-front rest told index (omega arith) stands (λ earlier h. passed (suc earlier) (omega arith)) in
     record {
       before = head ∷ tail .before;
       after = tail .after;
-      stands = ap (λ (cs : List Check). head ∷ cs) (tail .stands);
-      failed = failed;
+      stands = ap (λ (cs : List (Check Paper)). head ∷ cs) (tail .stands);
       passed = (passed 0 (omega arith), tail .passed);
     }
 
-first-at : (checks : List Check) (one : Check) → FirstFailing checks one → FirstAt checks one
-first-at checks one first = rw (first .stands) (behind (first .before) one (first .after) (first .failed) (first .passed))
+first-at : (checks : List (Check Paper)) (told : Paper) → FirstFailing checks told → FirstAt checks told
+first-at checks told first = rw (first .stands) (behind (first .before) told (first .after) (first .passed))
 
-first-failing : (checks : List Check) (one : Check) → FirstAt checks one → FirstFailing checks one
-first-failing checks one first =
-    from-front checks one (first .index) (first .within) (first .stands) (first .failed) (first .passed)
-
-first-has : (checks : List Check) (told : Paper) → FirstOf checks told → FirstHas checks told
-first-has checks told first =
-    record {
-      one = first .one;
-      first = first-at checks (first .one) (first .first);
-      number = ap (λ (p : Paper). p .number) (first .is);
-      place = ap (λ (p : Paper). p .place) (first .is);
-    }
-
-first-of : (checks : List Check) (told : Paper) → FirstHas checks told → FirstOf checks told
-first-of checks told first =
-    record {
-      one = first .one;
-      first = first-failing checks (first .one) (first .first);
-      is = rw (← first .number, ← first .place) refl;
-    }
+first-failing : (checks : List (Check Paper)) (told : Paper) → FirstAt checks told → FirstFailing checks told
+first-failing checks told first =
+    from-front checks told (first .index) (first .within) (first .stands) (first .passed)
 
 first-means : FirstMeans
 first-means =
     record {
-      failing = λ checks one. (first-at checks one, first-failing checks one);
-      of = λ checks told. (first-has checks told, first-of checks told);
+      failing = λ checks told. (first-at checks told, first-failing checks told);
       parts = λ number place fails. (refl, refl, refl);
       on-paper = λ number place. (refl, refl);
     }

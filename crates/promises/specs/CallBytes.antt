@@ -5,9 +5,10 @@ use mathlib.Core.Bool.{true, false}
 use mathlib.Core.List.{List, [], _∷_, _++_}
 use lib.ListN.{length, getD, drop}
 use Rattle.laws.specs.Each.{Each}
+use Rattle.quantities.specs.Paper.{Paper}
 use Rattle.quantities.specs.declared.Table.{Table}
 use Rattle.quantities.specs.Table.{rowsOf}
-use Rattle.quantities.specs.Checks.{Check, FirstFailing}
+use Rattle.laws.specs.Checks.{FirstFailing}
 use Rattle.bench.specs.declared.Bench.{Bench}
 use Rattle.bench.specs.declared.Request.{Request}
 use Rattle.bench.specs.declared.Request.the-variants.{Release, Tick}
@@ -143,7 +144,7 @@ ReplayNoRoom =
 -- A table that fails one of 1 to 6 is answered by its fault, and nothing is written.
 abbrev pub ReplayNotOpened : Type 0
 ReplayNotOpened =
-    (cores : ℕ) (table : Table) (one : Check) → FirstFailing (listOrder cores (rowsOf table)) one
+    (cores : ℕ) (table : Table) (one : Paper) → FirstFailing (listOrder cores (rowsOf table)) one
     → (calls out : List ℕ)
     → replay cores table calls out
     ≡ record { answer = NotOpened (faultAt (one .number) (one .place)); out = out }

@@ -14,8 +14,9 @@ use Rattle.quantities.specs.declared.Instant.{Instant}
 use Rattle.quantities.specs.declared.Checked.the-variants.{Sound, Faulty}
 use Rattle.quantities.specs.Row.{rowOf}
 use Rattle.quantities.specs.Table.{rowsOf}
-use Rattle.quantities.specs.Paper.{paper, checkedPaper, FirstOf}
-use Rattle.quantities.specs.Checks.{Check, check, FirstFailing}
+use Rattle.quantities.specs.Paper.{Paper, paper, checkedPaper}
+use Rattle.laws.specs.Checks.{Check, FirstFailing, firstFailing}
+use Rattle.quantities.specs.Checks.{check}
 use Rattle.bench.specs.declared.Last.{Last}
 use Rattle.bench.specs.declared.Last.the-variants.{Never, At}
 use Rattle.bench.specs.declared.RowState.{RowState}
@@ -27,7 +28,7 @@ use Rattle.bench.specs.declared.Outcome.the-variants.{Taken, Refused}
 use Rattle.bench.specs.declared.Finish.{Finish}
 use Rattle.bench.specs.declared.Finishes.{Finishes}
 use Rattle.bench.specs.Record.{lastInstant, broken}
-use Rattle.bench.specs.Refusal.{refusalPaper, paperOf, firstRefusal, releaseTests, tickTests, outcomeOf}
+use Rattle.bench.specs.Refusal.{refusalPaper, paperOf, releaseTests, tickTests, outcomeOf}
 use Rattle.bench.specs.Ended.{finishesOf}
 use Rattle.bench.specs.Step.{Step, opened, openingOf, release, tick, releasedOf, tickedOf}
 use Rattle.bench.specs.History.{Call, releases, ticks, doCall, after}
@@ -66,7 +67,7 @@ pub record RefusalNumbers : Type 0 where
 -- 29: a record with a table failing 1 to 6, an instant above 1,000,000,000, a last release after it, a
 -- released demand above C, a remainder above that demand, or work on a row never released.
 pub data RecordBroken (b : Bench) : Type 0 where
-  faulty-table : (one : Check) → FirstFailing (listOrder (b .cores) (rowsOn b)) one → RecordBroken b
+  faulty-table : (one : Paper) → FirstFailing (listOrder (b .cores) (rowsOn b)) one → RecordBroken b
   late-instant : 1000000000 < b .now .0 → RecordBroken b
   released-later :
       (place : ℕ) (at : Instant) → OnBoard b place → stateOn b place .last ≡ At at → b .now .0 < at .0
@@ -93,7 +94,7 @@ tooEarly now gap Never = false
 tooEarly now gap (At at) = ltb now (at .0 + gap)
 
 -- Order, release: 29, 20, 23, 22, 21;
-abbrev pub releaseOrder : Bench → (place demand : ℕ) → List Check
+abbrev pub releaseOrder : Bench → (place demand : ℕ) → List (Check Paper)
 releaseOrder b place demand =
     check 29 0 (broken b)
     ∷ check 20 place (eqb place 0 || ltb (length (rowsOn b)) place)
@@ -103,10 +104,10 @@ releaseOrder b place demand =
     ∷ []
 
 -- tick: 29, 24.
-abbrev pub tickOrder : Bench → List Check
+abbrev pub tickOrder : Bench → List (Check Paper)
 tickOrder b = check 29 0 (broken b) ∷ check 24 0 (eqb (b .now .0) 1000000000) ∷ []
 
-abbrev pub callOrder : Bench → Call → List Check
+abbrev pub callOrder : Bench → Call → List (Check Paper)
 callOrder b (releases place demand) = releaseOrder b place demand
 callOrder b ticks = tickOrder b
 
@@ -125,7 +126,7 @@ RefusedChangesNothing =
 -- A call is turned away by the first check that fails, with its number and place, and nothing changes;
 abbrev pub CallTurnedAway : Type 0
 CallTurnedAway =
-    (b : Bench) (call : Call) (one : Check) → FirstFailing (callOrder b call) one
+    (b : Bench) (call : Call) (one : Paper) → FirstFailing (callOrder b call) one
     → Refuses b (one .number) (one .place) (doCall b call)
 
 -- it is taken where none fails;
@@ -138,7 +139,7 @@ CallTaken =
 abbrev pub RefusedCallHasFault : Type 0
 RefusedCallHasFault =
     (b : Bench) (call : Call) (why : Refusal) → doCall b call .outcome ≡ Refused why
-    → FirstOf (callOrder b call) (refusalPaper why)
+    → FirstFailing (callOrder b call) (refusalPaper why)
 
 -- Nothing but the gap can stand against a release: a record without 29, a place of the board, a demand of
 -- 1 to C, and a last poll that is over.
@@ -174,7 +175,7 @@ blankBench = newBench 0 (record { count = 0; rows = replicate 32 (rowOf 0 0 0) }
 
 -- Opening a bench checks 1 to 6 in list order and gives no bench on refusal: each call on what stands there
 -- gives 29.
-pub record NotOpened (cores : ℕ) (table : Table) (one : Check) : Type 0 where
+pub record NotOpened (cores : ℕ) (table : Table) (one : Paper) : Type 0 where
   pub found : openingOf cores table .found ≡ Faulty (faultAt (one .number) (one .place))
   pub on-paper : checkedPaper (openingOf cores table .found) ≡ paper (one .number) (one .place)
   pub stands-for-none : openingOf cores table .bench ≡ blankBench
@@ -183,7 +184,7 @@ pub record NotOpened (cores : ℕ) (table : Table) (one : Check) : Type 0 where
 
 abbrev pub OpeningRefused : Type 0
 OpeningRefused =
-    (cores : ℕ) (table : Table) (one : Check) → FirstFailing (listOrder cores (rowsOf table)) one
+    (cores : ℕ) (table : Table) (one : Paper) → FirstFailing (listOrder cores (rowsOf table)) one
     → NotOpened cores table one
 
 -- A table that passes 1 to 6 is opened.
@@ -229,8 +230,8 @@ EndedListed =
 pub record CallsAnswered : Type 0 where
   pub last-instant : lastInstant ≡ 1000000000
   pub judge-release : (b : Bench) (place demand : ℕ)
-      → outcomeOf (firstRefusal (releaseTests b place demand)) ≡ release b place demand .outcome
-  pub judge-tick : (b : Bench) → outcomeOf (firstRefusal (tickTests b)) ≡ tick b .outcome
+      → outcomeOf (firstFailing (releaseTests b place demand)) ≡ release b place demand .outcome
+  pub judge-tick : (b : Bench) → outcomeOf (firstFailing (tickTests b)) ≡ tick b .outcome
   pub to-release : (step : Step) → releasedOf step ≡ record { outcome = step .outcome; bench = step .bench }
   pub to-tick : (step : Step)
       → tickedOf step

@@ -7,8 +7,8 @@ use Rattle.laws.specs.Each.{Each}
 use Rattle.quantities.specs.declared.Row.{Row}
 use Rattle.quantities.specs.declared.Fault.{Fault}
 use Rattle.quantities.specs.declared.Ticks.{Ticks}
-use Rattle.quantities.specs.Paper.{paper, faultPaper, FirstOf}
-use Rattle.quantities.specs.Checks.{Check, FirstFailing}
+use Rattle.quantities.specs.Paper.{Paper, paper, faultPaper}
+use Rattle.laws.specs.Checks.{FirstFailing}
 use Rattle.quantities.specs.Lengths.{numbers}
 use Rattle.windows.specs.declared.Answer.{Answer}
 use Rattle.windows.specs.declared.Answer.the-variants.{Refused}
@@ -49,14 +49,14 @@ LentAnswered lend = (cores : ℕ) (rows : List Row) (before : List ℕ) → Answ
 
 -- A list with a fault is turned away by the first check that fails, 7 after the rows' checks, and the lent
 -- list stays as it was: numbers 1 to 7 write nothing.
-pub record LeftAlone (one : Check) (before after : List ℕ) (answer : Answer) : Type 0 where
+pub record LeftAlone (one : Paper) (before after : List ℕ) (answer : Answer) : Type 0 where
   pub answers : answer ≡ Refused (faultAt (one .number) (one .place))
   pub on-paper : answerPaper answer ≡ paper (one .number) (one .place)
   pub same-list : after ≡ before
 
 abbrev pub LentTurnedAway : Lending → Type 0
 LentTurnedAway lend =
-    (cores : ℕ) (rows : List Row) (before after : List ℕ) (answer : Answer) (one : Check)
+    (cores : ℕ) (rows : List Row) (before after : List ℕ) (answer : Answer) (one : Paper)
     → lend cores rows before after answer → FirstFailing (lentOrder cores (length before) rows) one
     → LeftAlone one before after answer
 
@@ -65,7 +65,7 @@ abbrev pub RefusedLentHasFault : Lending → Type 0
 RefusedLentHasFault lend =
     (cores : ℕ) (rows : List Row) (before after : List ℕ) (fault : Fault)
     → lend cores rows before after (Refused fault)
-    → FirstOf (lentOrder cores (length before) rows) (faultPaper fault)
+    → FirstFailing (lentOrder cores (length before) rows) (faultPaper fault)
 
 -- A list in range with an entry for each row is judged. The first entries hold the bounds that come with the
 -- answer: one for each row, or those of the rows before the place not shown. Every later entry is as it was.
@@ -84,7 +84,7 @@ LentJudged lend =
 
 -- An outcome by the rules: turned away so, or judged so.
 pub record LentOutcome (cores : ℕ) (rows : List Row) (before after : List ℕ) (answer : Answer) : Type 0 where
-  pub faulty : (one : Check) → FirstFailing (lentOrder cores (length before) rows) one
+  pub faulty : (one : Paper) → FirstFailing (lentOrder cores (length before) rows) one
       → LeftAlone one before after answer
   pub judges : ListInRange cores rows → length rows ≤ length before
       → LentJudgement cores rows before after answer

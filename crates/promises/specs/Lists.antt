@@ -11,14 +11,15 @@ use Rattle.quantities.specs.declared.Row.{Row}
 use Rattle.quantities.specs.declared.Fault.{Fault}
 use Rattle.quantities.specs.declared.Fault.the-variants.{WholeList, OneRow}
 use Rattle.quantities.specs.Row.{rowOf}
-use Rattle.quantities.specs.Paper.{paper, faultPaper, FirstOf}
-use Rattle.quantities.specs.Checks.{Check, check, FirstFailing}
+use Rattle.quantities.specs.Paper.{Paper, paper, faultPaper}
+use Rattle.laws.specs.Checks.{Check, FirstFailing}
+use Rattle.quantities.specs.Checks.{check}
 use Rattle.windows.specs.declared.Answer.{Answer}
 use Rattle.windows.specs.declared.Answer.the-variants.{Refused}
 use Rattle.windows.specs.Answer.{Judged, judged, answerPaper}
 
 -- the checks of the row at a place: 3, 4, 5, 6
-abbrev pub rowOrder : (place : ℕ) → Row → List Check
+abbrev pub rowOrder : (place : ℕ) → Row → List (Check Paper)
 rowOrder place row =
     check 3 place (eqb (row .c .0) 0)
     ∷ check 4 place (ltb (row .d .0) (row .c .0))
@@ -26,19 +27,19 @@ rowOrder place row =
     ∷ check 6 place (ltb 1000000 (row .t .0))
     ∷ []
 
-abbrev pub rowsOrder : (place : ℕ) → List Row → List Check
+abbrev pub rowsOrder : (place : ℕ) → List Row → List (Check Paper)
 rowsOrder place [] = []
 rowsOrder place (row ∷ rows) = rowOrder place row ++ rowsOrder (suc place) rows
 
 -- Order, list: 1, 2, then rows by place and within a row 3, 4, 5, 6;
-abbrev pub listOrder : (cores : ℕ) → List Row → List Check
+abbrev pub listOrder : (cores : ℕ) → List Row → List (Check Paper)
 listOrder cores rows =
     check 1 0 (eqb (length rows) 0 || ltb 32 (length rows))
     ∷ check 2 0 (eqb cores 0 || ltb 16 cores)
     ∷ rowsOrder 1 rows
 
 -- then 7, where the bounds go into a list with this many entries.
-abbrev pub lentOrder : (cores entries : ℕ) → List Row → List Check
+abbrev pub lentOrder : (cores entries : ℕ) → List Row → List (Check Paper)
 lentOrder cores entries rows = listOrder cores rows ++ (check 7 0 (ltb entries (length rows)) ∷ [])
 
 -- A fault itself says whether it concerns the whole list or one row at a place: place 0 is the whole list.
@@ -48,7 +49,7 @@ faultAt number (suc p) = OneRow number (suc p)
 
 -- A list is turned away by this check: with its number and place, as a fault of the list or of the row, and
 -- no bounds.
-pub record TurnedAwayBy (one : Check) (j : Judged) : Type 0 where
+pub record TurnedAwayBy (one : Paper) (j : Judged) : Type 0 where
   pub answers : j .answer ≡ Refused (faultAt (one .number) (one .place))
   pub on-paper : answerPaper (j .answer) ≡ paper (one .number) (one .place)
   pub no-bounds : j .bounds ≡ []
@@ -60,14 +61,14 @@ NotRefused answer = (fault : Fault) → answer ≡ Refused fault → ⊥
 -- A list with a fault is turned away by the first check that fails.
 abbrev pub FaultyListTurnedAway : Type 0
 FaultyListTurnedAway =
-    (cores : ℕ) (rows : List Row) (one : Check) → FirstFailing (listOrder cores rows) one
+    (cores : ℕ) (rows : List Row) (one : Paper) → FirstFailing (listOrder cores rows) one
     → TurnedAwayBy one (judged cores rows)
 
 -- And a list that is refused has that fault.
 abbrev pub RefusedListHasFault : Type 0
 RefusedListHasFault =
     (cores : ℕ) (rows : List Row) (fault : Fault) → judged cores rows .answer ≡ Refused fault
-    → FirstOf (listOrder cores rows) (faultPaper fault)
+    → FirstFailing (listOrder cores rows) (faultPaper fault)
 
 -- A row has C, D, T, all in ticks, 1 ≤ C ≤ D ≤ T ≤ 1,000,000.
 pub record RowInRange (row : Row) : Type 0 where

@@ -8,8 +8,9 @@ use lib.Dec.{eqb, leb, ltb}
 use lib.ListN.{length, getD, take, drop, replicate}
 use Rattle.laws.specs.Each.{Each}
 use Rattle.laws.specs.Permuted.{Permuted}
-use Rattle.quantities.specs.Checks.{Check, check, FirstFailing}
-use Rattle.quantities.specs.Paper.{paper}
+use Rattle.laws.specs.Checks.{Check, FirstFailing}
+use Rattle.quantities.specs.Checks.{check}
+use Rattle.quantities.specs.Paper.{Paper, paper}
 use Rattle.quantities.specs.Row.{rowOf}
 use Rattle.quantities.specs.Table.{rowsOf}
 use Rattle.sheet.specs.Entries.{entriesOf, tableOf}
@@ -59,7 +60,7 @@ usedBefore sheet (suc n) priority = eqb (priorityAt sheet (behind n)) priority |
 
 -- Order, sheet: at each record 11 (no byte; the place is the sheet's length), 12, 13, 11 (cut short; the
 -- place is its kind byte). The record should start at this place; 13 fails where it is misplaced.
-abbrev pub commonOrder : List ℕ → (place : ℕ) → (misplaced : Bool) → List Check
+abbrev pub commonOrder : List ℕ → (place : ℕ) → (misplaced : Bool) → List (Check Paper)
 commonOrder sheet place misplaced =
     check 11 (length sheet) (leb (length sheet) place)
     ∷ check 12 place (not (eqb (byte sheet place) 1 || eqb (byte sheet place) 2 || eqb (byte sheet place) 3))
@@ -68,14 +69,14 @@ commonOrder sheet place misplaced =
     ∷ []
 
 -- The first record: 13 where it is not a board; then board 19, tick length 0.
-abbrev pub boardOrder : List ℕ → List Check
+abbrev pub boardOrder : List ℕ → List (Check Paper)
 boardOrder sheet =
     commonOrder sheet 0 (not (eqb (byte sheet 0) 1))
     ++ (check 19 0 (eqb (tickOf sheet) 0) ∷ [])
 
 -- Row 14, 16, 15, of the record after so many rows: a 33rd row record; priority 0 or above 999; priority
 -- already used.
-abbrev pub rowOrder : List ℕ → (rows : ℕ) → List Check
+abbrev pub rowOrder : List ℕ → (rows : ℕ) → List (Check Paper)
 rowOrder sheet n =
     check 14 (behind n) (leb 32 n)
     ∷ check 16 (behind n) (eqb (priorityAt sheet (behind n)) 0 || ltb 999 (priorityAt sheet (behind n)))
@@ -83,20 +84,20 @@ rowOrder sheet n =
     ∷ []
 
 -- End 17, 18: the end count differs from the rows read; bytes after the end record, at the first of them.
-abbrev pub endOrder : List ℕ → (rows : ℕ) → List Check
+abbrev pub endOrder : List ℕ → (rows : ℕ) → List (Check Paper)
 endOrder sheet n =
     check 17 (behind n) (not (eqb (byte sheet (behind n + 1)) n))
     ∷ check 18 (behind n + 2) (ltb (behind n + 2) (length sheet))
     ∷ []
 
 -- A later record, after the board and so many rows: 13 where it is a board; then as a row or as an end.
-abbrev pub laterOrder : List ℕ → (rows : ℕ) → List Check
+abbrev pub laterOrder : List ℕ → (rows : ℕ) → List (Check Paper)
 laterOrder sheet n =
     commonOrder sheet (behind n) (eqb (byte sheet (behind n)) 1)
     ++ cond (eqb (byte sheet (behind n)) 2) (rowOrder sheet n) (endOrder sheet n)
 
 -- None of these checks fails.
-abbrev pub AllPass : List Check → Type 0
+abbrev pub AllPass : List (Check Paper) → Type 0
 AllPass checks = Each (λ one. one .fails ≡ false) checks
 
 -- The board record and the first rows, so many, fail no check: the board record first and once, then rows.
@@ -106,7 +107,7 @@ RowsPass sheet (suc n) = RowsPass sheet n × AllPass (laterOrder sheet n) × (by
 
 -- The sheet's first fault, records as they stand: the first check that fails, of the board record or of the
 -- record after so many rows.
-pub data FirstFault (sheet : List ℕ) (one : Check) : Type 0 where
+pub data FirstFault (sheet : List ℕ) (one : Paper) : Type 0 where
   at-the-board : FirstFailing (boardOrder sheet) one → FirstFault sheet one
   after-rows : (n : ℕ) → RowsPass sheet n → FirstFailing (laterOrder sheet n) one → FirstFault sheet one
 
@@ -135,7 +136,7 @@ pub record TurnedAway (number place : ℕ) (outcome : Outcome) : Type 0 where
 -- A sheet with a fault is turned away by its first one.
 abbrev pub SheetTurnedAway : Type 0
 SheetTurnedAway =
-    (sheet : List ℕ) (one : Check) → FirstFault sheet one
+    (sheet : List ℕ) (one : Paper) → FirstFault sheet one
     → TurnedAway (one .number) (one .place) (readOf sheet)
 
 -- A sheet without fault is taken.
@@ -154,11 +155,11 @@ TakenSheetIsWhole = (sheet : List ℕ) → readOf sheet .verdict ≡ Sound → (
 abbrev pub RefusedSheetHasFault : Type 0
 RefusedSheetHasFault =
     (sheet : List ℕ) (number place : ℕ) → readOf sheet .verdict ≡ Refused number place
-    → (one : Check) × FirstFault sheet one × (one .number ≡ number) × (one .place ≡ place)
+    → (one : Paper) × FirstFault sheet one × (one .number ≡ number) × (one .place ≡ place)
 
 -- Every sheet is without fault, or it has a first one.
 abbrev pub SheetEither : Type 0
-SheetEither = (sheet : List ℕ) → ((n : ℕ) × WholeWith sheet n) ⊎ ((one : Check) × FirstFault sheet one)
+SheetEither = (sheet : List ℕ) → ((n : ℕ) × WholeWith sheet n) ⊎ ((one : Paper) × FirstFault sheet one)
 
 -- A sheet that ends where a record should start is turned away by 11 at its length: behind a board and rows,
 -- and the empty sheet at 0.

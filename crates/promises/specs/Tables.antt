@@ -3,12 +3,14 @@ use Prim.Native.Nat.{ℕ, _≤_, _<_}
 use mathlib.Core.Path.{_≡_}
 use mathlib.Core.List.{[], _∷_, _++_}
 use lib.ListN.{length, take}
+use Rattle.quantities.specs.Paper.{Paper}
 use Rattle.quantities.specs.declared.Row.{Row}
 use Rattle.quantities.specs.declared.Table.{Table}
 use Rattle.quantities.specs.declared.Checked.the-variants.{Sound, Faulty}
 use Rattle.quantities.specs.Limits.{rowCapacity, coreLimit, largestGap}
 use Rattle.quantities.specs.Table.{rowsOf, emptyTable, withRow}
-use Rattle.quantities.specs.Checks.{Check, FirstFailing, listFault, checkedOf}
+use Rattle.laws.specs.Checks.{FirstFailing}
+use Rattle.quantities.specs.Checks.{listFault, checkedOf}
 use Rattle.promises.specs.Lists.{listOrder, faultAt, ListInRange}
 
 -- Row capacity, core limit and largest gap belong to the table's own type as named constants.
@@ -31,7 +33,7 @@ pub record TableMade : Type 0 where
 
 -- `Table::check` answers checks 1 to 6 in the order of a list.
 pub record TableChecked : Type 0 where
-  pub faulty : (cores : ℕ) (table : Table) (one : Check) → FirstFailing (listOrder cores (rowsOf table)) one
+  pub faulty : (cores : ℕ) (table : Table) (one : Paper) → FirstFailing (listOrder cores (rowsOf table)) one
       → checkedOf (listFault cores (rowsOf table)) ≡ Faulty (faultAt (one .number) (one .place))
   pub sound : (cores : ℕ) (table : Table) → ListInRange cores (rowsOf table)
       → checkedOf (listFault cores (rowsOf table)) ≡ Sound

@@ -3,8 +3,9 @@ use Prim.Native.Nat.{ℕ, zero, suc, _+_, _*_, _≤_, _<_}
 use mathlib.Core.Path.{_≡_}
 use mathlib.Core.List.{List, [], _∷_, _++_, map}
 use lib.ListN.{length, getD, take, drop}
+use Rattle.quantities.specs.Paper.{Paper}
 use Rattle.quantities.specs.declared.Row.{Row}
-use Rattle.quantities.specs.Checks.{Check, FirstFailing}
+use Rattle.laws.specs.Checks.{FirstFailing}
 use Rattle.windows.specs.declared.Answer.the-variants.{Shown, NotShown}
 use Rattle.sheet.specs.declared.Entry.{Entry}
 use Rattle.sheet.specs.declared.Sheet.{Sheet}
@@ -68,7 +69,7 @@ rowsIn entries = map (λ (entry : Entry). entry .row) entries
 -- The text for entries on a board with so many cores and this tick length is that of the judgement of their
 -- own rows: each line has the label and D of the row whose bound stands there.
 pub data TextOf (cores tick : ℕ) (entries : List Entry) (text : List ℕ) : Type 0 where
-  turned-away : (first : Check) → FirstFailing (listOrder cores (rowsIn entries)) first
+  turned-away : (first : Paper) → FirstFailing (listOrder cores (rowsIn entries)) first
       → text ≡ refusedText (first .number) (first .place)
       → TextOf cores tick entries text
   all-shown : (bounds : List ℕ) → ListInRange cores (rowsIn entries)
@@ -93,7 +94,7 @@ pub record WholeWay (sheet : List ℕ) (n : ℕ) (text : List ℕ) : Type 0 wher
 -- its first one.
 pub record GoesTheWholeWay (tool : List ℕ → List ℕ) : Type 0 where
   pub whole : (sheet : List ℕ) (n : ℕ) → WholeWith sheet n → WholeWay sheet n (tool sheet)
-  pub faulty : (sheet : List ℕ) (first : Check) → FirstFault sheet first
+  pub faulty : (sheet : List ℕ) (first : Paper) → FirstFault sheet first
       → tool sheet ≡ refusedText (first .number) (first .place)
 
 -- No tool that does prints another text than ours, for any sheet.

@@ -8,37 +8,29 @@ use lib.ListN.{length, getD}
 use Rattle.laws.specs.Each.{Each}
 use Rattle.laws.specs.Member.{Member}
 use Rattle.laws.specs.Permuted.{Permuted}
-use Rattle.quantities.specs.Checks.{Check, check, FirstFailing}
-use Rattle.quantities.specs.Paper.{Paper, paper, FirstOf, checkedPaper}
+use Rattle.laws.specs.Checks.{Check, FirstFailing}
+use Rattle.quantities.specs.Checks.{check}
+use Rattle.quantities.specs.Paper.{Paper, paper, checkedPaper}
 use Rattle.quantities.specs.declared.Checked.the-variants.{Sound as Passed}
 use Rattle.windows.specs.Answer.{answerPaper}
 use Rattle.windows.specs.declared.Answer.the-variants.{Shown}
 use Rattle.sheet.specs.Reader.{paperOf as sheetPaper}
 use Rattle.sheet.specs.declared.Verdict.the-variants.{Sound}
 
--- One check is the first of a list that fails: it stands at an index, it fails, and none before it does.
-pub record FirstAt (checks : List Check) (one : Check) : Type 0 where
+-- The first check of a list that fails tells this number and place: a check that does so stands at an index, it
+-- fails, and none before it does.
+pub record FirstAt (checks : List (Check Paper)) (told : Paper) : Type 0 where
   pub index : ℕ
   pub within : index < length checks
-  pub stands : getD checks index (check 0 0 false) ≡ one
-  pub failed : one .fails ≡ true
+  pub stands : getD checks index (check 0 0 false) ≡ check (told .number) (told .place) true
   pub passed : (earlier : ℕ) → earlier < index → getD checks earlier (check 0 0 false) .fails ≡ false
 
--- The first of these checks that fails has this number and this place.
-pub record FirstHas (checks : List Check) (number-and-place : Paper) : Type 0 where
-  pub one : Check
-  pub first : FirstAt checks one
-  pub number : number-and-place .number ≡ one .number
-  pub place : number-and-place .place ≡ one .place
-
--- That is what the other pages mean by `FirstFailing` and `FirstOf`, and `check` and `paper` have their parts
--- in this order.
+-- That is what the other pages mean by `FirstFailing`, and `check` and `paper` have their parts in this order.
 pub record FirstMeans : Type 0 where
-  pub failing : (checks : List Check) (one : Check) → FirstFailing checks one ↔ FirstAt checks one
-  pub of : (checks : List Check) (told : Paper) → FirstOf checks told ↔ FirstHas checks told
+  pub failing : (checks : List (Check Paper)) (told : Paper) → FirstFailing checks told ↔ FirstAt checks told
   pub parts : (number place : ℕ) (fails : Bool)
-      → (check number place fails .number ≡ number)
-      × (check number place fails .place ≡ place)
+      → (check number place fails .told .number ≡ number)
+      × (check number place fails .told .place ≡ place)
       × (check number place fails .fails ≡ fails)
   pub on-paper : (number place : ℕ) → (paper number place .number ≡ number) × (paper number place .place ≡ place)
 

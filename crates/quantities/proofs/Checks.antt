@@ -1,7 +1,7 @@
 -- Laws of the checks: which check of a row fails first, and which of several lists of checks.
 use Prim.Native.Nat.{ℕ, zero, suc, _≤_, _<_}
 use native.Mathlib.Omega.{arith}
-use mathlib.Core.Path.{_≡_, refl}
+use mathlib.Core.Path.{_≡_, refl, ap}
 use mathlib.Core.Bool.{Bool, true, false}
 use mathlib.Core.List.{List, [], _∷_, _++_}
 use mathlib.Core.Option.{Option, none, some}
@@ -9,42 +9,39 @@ use lib.ListN.{length}
 use borrow.Author.Tests.{eq-eqb, ne-eqb, lt-ltb, le-ltb}
 use Rattle.quantities.specs.Limits.{rowCapacity, coreLimit, largestGap}
 use Rattle.quantities.specs.Row.{cost, deadline, gap}
-use Rattle.quantities.specs.Checks.{
-  Check,
-  check,
-  isLast,
-  rowChecks,
-  rowsChecks,
-  listChecks,
-  roomChecks,
-  firstFailing,
-  faultFrom,
-  rowFault,
-  rowsFault,
-  listFault,
-  lentFault,
-  SoundAt,
-  checkedOf,
-}
+use Rattle.laws.specs.Checks.{Check, firstFailing}
+use Rattle.laws.proofs.Checks.{found-in-first, found-in-second}
+use Rattle.laws.proofs.Tests.{not-one}
+use Rattle.quantities.specs.Paper.{Paper, paper}
+use Rattle.quantities.specs.Checks.{check, isLast, rowChecks, rowsChecks, listChecks, roomChecks, faultFrom}
+use Rattle.quantities.specs.Checks.{rowFault, rowsFault, listFault, lentFault, SoundAt, checkedOf}
 use Rattle.quantities.specs.declared.Row.{Row}
 use Rattle.quantities.specs.declared.Fault.{Fault}
 use Rattle.quantities.specs.declared.Fault.the-variants.{WholeList, OneRow}
 use Rattle.quantities.specs.declared.Checked.the-variants.{Sound, Faulty}
 
 -- a check that fails at a row's place is a fault of that row
-pub fault-at-row : (number place : ℕ) → 0 < place → faultFrom (some (check number place true)) ≡ some (OneRow number place)
+pub fault-at-row : (number place : ℕ) → 0 < place → faultFrom (some (paper number place)) ≡ some (OneRow number place)
 unfolding faultFrom
 fault-at-row number zero h = absurd (omega arith)
 fault-at-row number (suc p) h = refl
 
 -- a check that fails is some fault
-pub fault-is-some : (one : Check) → faultFrom (some one) ≡ none → ⊥
+pub fault-is-some : (one : Paper) → faultFrom (some one) ≡ none → ⊥
 unfolding faultFrom
-fault-is-some one = at (one .number) (one .place) (one .fails)
+fault-is-some one = at (one .number) (one .place)
   where
-    at : (number place : ℕ) (fails : Bool) → faultFrom (some (check number place fails)) ≡ none → ⊥
-    at number zero fails e = let z : _≡_ {A = ℕ} 0 1 = cc in omega arith
-    at number (suc p) fails e = let z : _≡_ {A = ℕ} 0 1 = cc in omega arith
+    at : (number place : ℕ) → faultFrom (some (paper number place)) ≡ none → ⊥
+    at number zero e = let z : _≡_ {A = ℕ} 0 1 = cc in omega arith
+    at number (suc p) e = let z : _≡_ {A = ℕ} 0 1 = cc in omega arith
+
+-- there is a fault exactly where a check fails
+pub fault-none : (checks : List (Check Paper)) → faultFrom (firstFailing checks) ≡ none → firstFailing checks ≡ none
+fault-none checks e = go (firstFailing checks) refl
+  where
+    go : (found : Option Paper) → firstFailing checks ≡ found → firstFailing checks ≡ none
+    go none q = q
+    go (some one) q = absurd (fault-is-some one (rw q at e))
 
 -- The fault of a row by the first of its checks that fails.
 module _ (place : ℕ) (last : Bool) (row : Row) (h : 0 < place) where
@@ -77,23 +74,18 @@ row-fault-none place last row s =
     simp (ne-eqb (row .c .0) 0 (omega arith), le-ltb (deadline row) (cost row) (s .in-time), le-ltb (gap row) (deadline row) (s .in-gap), le-ltb largestGap (gap row) (s .short-gap))
 
 -- Of two lists of checks, the first decides where one of its checks fails, else the second does.
-pub fault-in-first : (a b : List Check) (f : Fault) → faultFrom (firstFailing a) ≡ some f → faultFrom (firstFailing (a ++ b)) ≡ some f
-unfolding firstFailing faultFrom
-fault-in-first [] b f e = let z : _≡_ {A = ℕ} 0 1 = cc in absurd (omega arith)
-fault-in-first (one ∷ a) b f e = go (one .fails) refl (fault-in-first a b f)
+pub fault-in-first : (a b : List (Check Paper)) (f : Fault) → faultFrom (firstFailing a) ≡ some f
+    → faultFrom (firstFailing (a ++ b)) ≡ some f
+unfolding faultFrom
+fault-in-first a b f e = go (firstFailing a) refl
   where
-    go : (t : Bool) → one .fails ≡ t → (faultFrom (firstFailing a) ≡ some f → faultFrom (firstFailing (a ++ b)) ≡ some f) → faultFrom (firstFailing (one ∷ a ++ b)) ≡ some f
-    go true q later = rw (q, firstFailing) (rw (q, firstFailing) at e)
-    go false q later = rw (q, firstFailing) (later (rw (q, firstFailing) at e))
+    go : (found : Option Paper) → firstFailing a ≡ found → faultFrom (firstFailing (a ++ b)) ≡ some f
+    go none q = let z : _≡_ {A = ℕ} 0 1 = cc (rw (q, faultFrom) at e) in absurd (omega arith)
+    go (some one) q = rw (found-in-first a b one q) (rw q at e)
 
-pub fault-in-second : (a b : List Check) → faultFrom (firstFailing a) ≡ none → faultFrom (firstFailing (a ++ b)) ≡ faultFrom (firstFailing b)
-unfolding firstFailing faultFrom
-fault-in-second [] b e = refl
-fault-in-second (one ∷ a) b e = go (one .fails) refl (fault-in-second a b)
-  where
-    go : (t : Bool) → one .fails ≡ t → (faultFrom (firstFailing a) ≡ none → faultFrom (firstFailing (a ++ b)) ≡ faultFrom (firstFailing b)) → faultFrom (firstFailing (one ∷ a ++ b)) ≡ faultFrom (firstFailing b)
-    go true q later = absurd (fault-is-some one (rw (q, firstFailing) at e))
-    go false q later = rw (q, firstFailing) (later (rw (q, firstFailing) at e))
+pub fault-in-second : (a b : List (Check Paper)) → faultFrom (firstFailing a) ≡ none
+    → faultFrom (firstFailing (a ++ b)) ≡ faultFrom (firstFailing b)
+fault-in-second a b e = ap faultFrom (found-in-second a b (fault-none a e))
 
 -- The rows at a place and below: the first row decides where it has a fault, else the rows below it do.
 pub rows-fault-here : (place : ℕ) (row : Row) (rows : List Row) (f : Fault)

@@ -11,69 +11,15 @@ use lib.Dec.{eqb, ltb}
 use borrow.Author.Tests.{ltb-false, eqb-false}
 use Rattle.laws.specs.Each.{Each}
 use Rattle.laws.proofs.Tests.{or-false}
+use Rattle.laws.proofs.Checks.{none-fails, none-found}
 use Rattle.quantities.specs.Limits.{rowCapacity, coreLimit, largestGap}
 use Rattle.quantities.specs.Row.{cost, deadline, gap}
-use Rattle.quantities.specs.Checks.{Check, isLast, rowChecks, listChecks, firstFailing, FirstFailing, faultFrom}
+use Rattle.laws.specs.Checks.{Check, firstFailing}
+use Rattle.quantities.specs.Checks.{isLast, rowChecks, listChecks, faultFrom}
 use Rattle.quantities.specs.Checks.{rowFault, rowsFault, listFault, SoundAt, SoundRows, SoundList}
 use Rattle.quantities.specs.declared.Row.{Row}
 use Rattle.quantities.specs.declared.Fault.{Fault}
-use Rattle.quantities.proofs.Checks.{fault-is-some, row-fault-none, rows-fault-here, rows-fault-below, rows-fault-none, list-fault-rows}
-
--- no check fails where none is the first to fail
-pub none-fails : (checks : List Check) → firstFailing checks ≡ none → Each (λ one. one .fails ≡ false) checks
-unfolding firstFailing
-none-fails [] e = tt
-none-fails (one ∷ rest) e = go (one .fails) refl (none-fails rest)
-  where
-    go : (t : Bool) → one .fails ≡ t → (firstFailing rest ≡ none → Each (λ c. c .fails ≡ false) rest) → (one .fails ≡ false) × Each (λ c. c .fails ≡ false) rest
-    go true q later = let f : some one ≡ none = rw (q, firstFailing) at e in let z : _≡_ {A = ℕ} 0 1 = cc in absurd (omega arith)
-    go false q later = (q, later (rw (q, firstFailing) at e))
-
--- the check that firstFailing finds is the first that fails
-pub first-failing : (checks : List Check) (one : Check) → firstFailing checks ≡ some one → FirstFailing checks one
-unfolding firstFailing
-first-failing [] one e = let z : _≡_ {A = ℕ} 0 1 = cc in absurd (omega arith)
-first-failing (head ∷ rest) one e = go (head .fails) refl (first-failing rest one)
-  where
-    go : (t : Bool) → head .fails ≡ t → (firstFailing rest ≡ some one → FirstFailing rest one) → FirstFailing (head ∷ rest) one
-    go true q later =
-        let f : some head ≡ some one = rw (q, firstFailing) at e in
-        let same : head ≡ one = cc in
-        record { before = []; after = rest; stands = ap (λ c. c ∷ rest) same; failed = rw same at q; passed = tt }
-    go false q later =
-        let found = later (rw (q, firstFailing) at e) in
-        record {
-          before = head ∷ found .before;
-          after = found .after;
-          stands = ap (λ cs. head ∷ cs) (found .stands);
-          failed = found .failed;
-          passed = (q, found .passed);
-        }
-
--- and the other way round: the first that fails is found, and nothing is found where none fails
-pub first-found : (checks : List Check) (one : Check) → FirstFailing checks one → firstFailing checks ≡ some one
-unfolding firstFailing
-first-found checks one first =
-    ap firstFailing (first .stands) ∙ behind (first .before) (first .after) (first .failed) (first .passed)
-  where
-    behind : (before after : List Check) → one .fails ≡ true → Each (λ earlier. earlier .fails ≡ false) before
-        → firstFailing (before ++ one ∷ after) ≡ some one
-    behind [] after failed passed =
-        ap (λ (t : Bool). elim t as (λ x. Option Check) [ true ↦ some one | false ↦ firstFailing after ]) failed
-    behind (earlier ∷ before) after failed passed = rw (passed .0, firstFailing) (behind before after failed (passed .1))
-
-pub none-found : (checks : List Check) → Each (λ one. one .fails ≡ false) checks → firstFailing checks ≡ none
-unfolding firstFailing
-none-found [] passed = refl
-none-found (one ∷ rest) passed = rw (passed .0, firstFailing) (none-found rest (passed .1))
-
--- there is a fault exactly where a check fails
-fault-none : (checks : List Check) → faultFrom (firstFailing checks) ≡ none → firstFailing checks ≡ none
-fault-none checks e = go (firstFailing checks) refl
-  where
-    go : (found : Option Check) → firstFailing checks ≡ found → firstFailing checks ≡ none
-    go none q = q
-    go (some one) q = absurd (fault-is-some one (rw q at e))
+use Rattle.quantities.proofs.Checks.{fault-none, row-fault-none, rows-fault-here, rows-fault-below, rows-fault-none, list-fault-rows}
 
 -- a row without fault is sound where it stands
 pub sound-row : (place : ℕ) (last : Bool) (row : Row) → rowFault place last row ≡ none → SoundAt last row

@@ -3,6 +3,6 @@ pub mod Limits
 pub mod Row
 pub mod Lengths
 pub mod Table
-pub mod Checks
 pub mod Paper
+pub mod Checks
 pub mod Computing

@@ -1,8 +1,5 @@
 -- The numbers of document 01 for an answer: every refusal has a number and a place.
 use Prim.Native.Nat.{ℕ}
-use mathlib.Core.Path.{_≡_}
-use mathlib.Core.List.{List}
-use Rattle.quantities.specs.Checks.{Check, FirstFailing}
 use Rattle.quantities.specs.declared.Fault.{Fault}
 use Rattle.quantities.specs.declared.Fault.the-variants.{WholeList, OneRow}
 use Rattle.quantities.specs.declared.Checked.{Checked}
@@ -29,9 +26,3 @@ faultPaper (OneRow number place) = paper number place
 unfoldable pub checkedPaper : Checked → Paper
 checkedPaper Sound = noRefusal
 checkedPaper (Faulty fault) = faultPaper fault
-
--- The first of these checks that fails has this number and this place.
-pub record FirstOf (checks : List Check) (number-and-place : Paper) : Type 0 where
-  pub one : Check
-  pub first : FirstFailing checks one
-  pub is : number-and-place ≡ paper (one .number) (one .place)

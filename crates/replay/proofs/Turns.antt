@@ -6,6 +6,7 @@ use mathlib.Core.List.{List}
 use mathlib.Core.Option.{Option, none, some}
 use lib.ListN.{length, take, drop, length-drop, length-take, replicate}
 use lib.Seq.{sets, length-sets, take-append-seam}
+use Rattle.laws.specs.Checks.{firstFailing}
 use Rattle.quantities.specs.Limits.{rowCapacity}
 use Rattle.quantities.proofs.Rows.{length-rows}
 use Rattle.bench.specs.declared.Bench.{Bench}
@@ -14,7 +15,7 @@ use Rattle.bench.specs.declared.Refusal.{Refusal}
 use Rattle.bench.specs.declared.Request.{Request}
 use Rattle.bench.specs.declared.Ticked.{Ticked}
 use Rattle.bench.specs.Record.{rows}
-use Rattle.bench.specs.Refusal.{firstRefusal, tickTests}
+use Rattle.bench.specs.Refusal.{tickTests}
 use Rattle.bench.specs.Ended.{noFinish, finishesOf}
 use Rattle.bench.specs.Step.{Step, served, taken, tick, tickedOf}
 use Rattle.bench.specs.History.{Call, releases, ticks, doCall, callOf}
@@ -34,9 +35,9 @@ use Rattle.replay.proofs.Calls.{replayRest, no-call, no-room, one-more,
 pub polls-few : (b : Bench) (call : Call) → length (doCall b call .finishes) ≤ rowCapacity
 unfolding taken served
 polls-few b (releases place demand) = rw (release-no-polls b place demand) (omega arith)
-polls-few b ticks = go (firstRefusal (tickTests b)) refl
+polls-few b ticks = go (firstFailing (tickTests b)) refl
   where
-    go : (found : Option Refusal) → firstRefusal (tickTests b) ≡ found → length (tick b .finishes) ≤ rowCapacity
+    go : (found : Option Refusal) → firstFailing (tickTests b) ≡ found → length (tick b .finishes) ≤ rowCapacity
     go none q =
         let fits = sound-fits (b .cores) (b .table) (whole-of b (may-tick b q .whole) .sound) in
         let few = finished-few (suc (b .now .0)) 1 (served b) (b .states) in

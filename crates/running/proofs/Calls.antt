@@ -4,6 +4,7 @@ use mathlib.Core.Path.{_≡_, refl}
 use mathlib.Core.List.{List, [], _∷_}
 use mathlib.Core.Option.{Option, none, some}
 use lib.ListN.{getD}
+use Rattle.laws.specs.Checks.{firstFailing}
 use Rattle.laws.specs.Each.{Each}
 use Rattle.quantities.specs.declared.Row.{Row}
 use Rattle.quantities.specs.Row.{noRow}
@@ -11,7 +12,7 @@ use Rattle.bench.specs.declared.Bench.{Bench}
 use Rattle.bench.specs.declared.Refusal.{Refusal}
 use Rattle.bench.specs.declared.Outcome.the-variants.{Taken}
 use Rattle.bench.specs.Record.{rows, stateAt}
-use Rattle.bench.specs.Refusal.{firstRefusal, releaseTests, tickTests}
+use Rattle.bench.specs.Refusal.{releaseTests, tickTests}
 use Rattle.bench.specs.Step.{Step, unless, started, release, served, moved, taken, tick}
 use Rattle.bench.specs.History.{Call, releases, ticks, doCall, after, steps}
 use Rattle.running.proofs.Invariant.{no-facts, Inv}
@@ -30,9 +31,9 @@ module _ {M : ℕ} {list : List Row} {bounds : List ℕ} where
   run-release : (b : Bench) (place demand : ℕ) → InRun M list bounds b
       → InRun M list bounds (release b place demand .bench)
   unfolding release unless started
-  run-release b place demand run = go (firstRefusal (releaseTests b place demand)) refl
+  run-release b place demand run = go (firstFailing (releaseTests b place demand)) refl
     where
-      go : (refusal : Option Refusal) → firstRefusal (releaseTests b place demand) ≡ refusal
+      go : (refusal : Option Refusal) → firstFailing (releaseTests b place demand) ≡ refusal
           → InRun M list bounds
           (unless refusal (record { outcome = Taken; finishes = []; bench = started b place demand }) b .bench)
       go none e =
@@ -48,7 +49,7 @@ module _ {M : ℕ} {list : List Row} {bounds : List ℕ} where
   -- a tick, taken or refused
   run-tick : (b : Bench) → InRun M list bounds b → InRun M list bounds (tick b .bench)
   unfolding tick unless taken moved served
-  run-tick b run = go (firstRefusal (tickTests b))
+  run-tick b run = go (firstFailing (tickTests b))
     where
       go : (refusal : Option Refusal) → InRun M list bounds (unless refusal (taken b) b .bench)
       go none =

@@ -6,6 +6,7 @@ use mathlib.Core.List.{List, []}
 use mathlib.Core.Option.{Option, none, some}
 use native.Mathlib.Omega.{arith}
 use lib.ListN.{length, take}
+use Rattle.laws.specs.Checks.{firstFailing}
 use Rattle.laws.proofs.Lists.{each-map}
 use Rattle.laws.proofs.Tests.{not-one}
 use Rattle.quantities.specs.Limits.{rowCapacity}
@@ -22,7 +23,7 @@ use Rattle.bench.specs.declared.Refusal.{Refusal}
 use Rattle.bench.specs.declared.Refusal.the-variants.{Unfinished}
 use Rattle.bench.specs.declared.Outcome.the-variants.{Taken}
 use Rattle.bench.specs.Record.{rows, rowAt, stateAt}
-use Rattle.bench.specs.Refusal.{firstRefusal, releaseTests, tickTests, refusalPaper, paperOf}
+use Rattle.bench.specs.Refusal.{releaseTests, tickTests, refusalPaper, paperOf}
 use Rattle.bench.specs.Serving.{units, finished}
 use Rattle.bench.specs.Step.{unless, started, release, served, taken, tick, emptyBench}
 use Rattle.bench.specs.History.{Call, releases, ticks, doCall, after}
@@ -74,9 +75,9 @@ module _ {M : ℕ} {list : List Row} {bounds : List ℕ} (b : Bench) (run : InRu
   pub release-not-unfinished : (place : ℕ) → 1 ≤ place → place ≤ length bounds → (other demand : ℕ)
       → NotUnfinished place (release b other demand)
   unfolding release unless paperOf
-  release-not-unfinished place first within other demand = go (firstRefusal (releaseTests b other demand)) refl
+  release-not-unfinished place first within other demand = go (firstFailing (releaseTests b other demand)) refl
     where
-      go : (refusal : Option Refusal) → firstRefusal (releaseTests b other demand) ≡ refusal
+      go : (refusal : Option Refusal) → firstFailing (releaseTests b other demand) ≡ refusal
           → paperOf
           (unless refusal (record { outcome = Taken; finishes = []; bench = started b other demand }) b .outcome)
           ≡ paper 21 place
@@ -89,9 +90,9 @@ module _ {M : ℕ} {list : List Row} {bounds : List ℕ} (b : Bench) (run : InRu
 
   tick-not-unfinished : (place : ℕ) → NotUnfinished place (tick b)
   unfolding tick unless taken paperOf
-  tick-not-unfinished place = go (firstRefusal (tickTests b)) refl
+  tick-not-unfinished place = go (firstFailing (tickTests b)) refl
     where
-      go : (refusal : Option Refusal) → firstRefusal (tickTests b) ≡ refusal
+      go : (refusal : Option Refusal) → firstFailing (tickTests b) ≡ refusal
           → paperOf (unless refusal (taken b) b .outcome) ≡ paper 21 place → ⊥
       go none e says = let no : _≡_ {A = ℕ} 0 21 = ap (λ (p : Paper). p .number) says in omega arith
       go (some why) e says = tick-refusal b why e (ap (λ (p : Paper). p .number) says)
@@ -100,7 +101,7 @@ module _ {M : ℕ} {list : List Row} {bounds : List ℕ} (b : Bench) (run : InRu
   tick-ends : (place : ℕ) → 1 ≤ place → place ≤ length bounds
       → EndsInTime place (boundAt bounds place) (tick b)
   unfolding tick unless taken served
-  tick-ends place first within = go (firstRefusal (tickTests b))
+  tick-ends place first within = go (firstFailing (tickTests b))
     where
       go : (refusal : Option Refusal) → EndsInTime place (boundAt bounds place) (unless refusal (taken b) b)
       go none =
@@ -113,7 +114,7 @@ module _ {M : ℕ} {list : List Row} {bounds : List ℕ} (b : Bench) (run : InRu
   -- and none ends in a release
   release-ends : (place bound other demand : ℕ) → EndsInTime place bound (release b other demand)
   unfolding release unless
-  release-ends place bound other demand = go (firstRefusal (releaseTests b other demand))
+  release-ends place bound other demand = go (firstFailing (releaseTests b other demand))
     where
       go : (refusal : Option Refusal)
           → EndsInTime place bound

@@ -8,6 +8,7 @@ use native.Mathlib.Omega.{arith}
 use lib.Dec.{eqb, ltb}
 use lib.ListN.{length}
 use borrow.Author.Tests.{ltb-true}
+use Rattle.laws.specs.Checks.{checkFor, firstFailing}
 use Rattle.laws.proofs.Tests.{not-one}
 use Rattle.quantities.specs.Row.{cost, gap}
 use Rattle.bench.specs.declared.Last.{Last}
@@ -17,7 +18,7 @@ use Rattle.bench.specs.declared.Refusal.{Refusal}
 use Rattle.bench.specs.declared.Refusal.the-variants.{NoPlace, Unfinished, TooSoon, WrongDemand}
 use Rattle.bench.specs.declared.Refusal.the-variants.{ClockEnd, BrokenRecord}
 use Rattle.bench.specs.Record.{rows, rowAt, stateAt, work, broken, lastInstant}
-use Rattle.bench.specs.Refusal.{test, firstRefusal, tooSoon, releaseTests, tickTests, refusalPaper}
+use Rattle.bench.specs.Refusal.{tooSoon, releaseTests, tickTests, refusalPaper}
 use Rattle.bench.proofs.Gaps.{gap-kept}
 use Rattle.bench.proofs.Permitted.{may-release}
 use Rattle.running.proofs.State.{isAt, instantOf, ever, came}
@@ -29,16 +30,16 @@ same-number why other e n = let is : why ≡ other = cc in rw is at n
 
 -- where the tests of a release in their order end with 21, the last fails and the one before it does not
 pub last-failed : (place : ℕ) (t29 t20 t23 t22 t21 : Bool) (why : Refusal)
-    → firstRefusal
-    (test BrokenRecord t29
-    ∷ test (NoPlace place) t20
-    ∷ test (WrongDemand place) t23
-    ∷ test (TooSoon place) t22
-    ∷ test (Unfinished place) t21
+    → firstFailing
+    (checkFor BrokenRecord t29
+    ∷ checkFor (NoPlace place) t20
+    ∷ checkFor (WrongDemand place) t23
+    ∷ checkFor (TooSoon place) t22
+    ∷ checkFor (Unfinished place) t21
     ∷ [])
     ≡ some why
     → refusalPaper why .number ≡ 21 → (why ≡ Unfinished place) × ((t22 ≡ false) × (t21 ≡ true))
-unfolding firstRefusal refusalPaper
+unfolding firstFailing refusalPaper
 last-failed p false false false false true why e n = (cc, (refl, refl))
 last-failed p false false false false false why e n = absurd (not-one cc)
 last-failed p false false false true t21 why e n = absurd (omega (arith, same-number why (TooSoon p) e n))
@@ -59,7 +60,7 @@ pub record UnfinishedAt (b : Bench) (place : ℕ) (why : Refusal) : Type 0 where
   pub left : 0 < work (stateAt b place)
 
 module _ (b : Bench) (place demand : ℕ) where
-  pub release-allowed : firstRefusal (releaseTests b place demand) ≡ none
+  pub release-allowed : firstFailing (releaseTests b place demand) ≡ none
       → Allowed (b .now .0) demand (rowAt b place) (stateAt b place)
   release-allowed e =
       let may = may-release b place demand e in
@@ -71,7 +72,7 @@ module _ (b : Bench) (place demand : ℕ) where
       }
 
   -- a release that is refused with 21 keeps the gap, and there is work left
-  pub release-unfinished : (why : Refusal) → firstRefusal (releaseTests b place demand) ≡ some why
+  pub release-unfinished : (why : Refusal) → firstFailing (releaseTests b place demand) ≡ some why
       → refusalPaper why .number ≡ 21
       → UnfinishedAt b place why
   unfolding releaseTests
@@ -87,13 +88,14 @@ module _ (b : Bench) (place demand : ℕ) where
       }
 
 -- a tick is never refused with 21
-pub tick-refusal : (b : Bench) (why : Refusal) → firstRefusal (tickTests b) ≡ some why → refusalPaper why .number ≡ 21
+pub tick-refusal : (b : Bench) (why : Refusal) → firstFailing (tickTests b) ≡ some why → refusalPaper why .number ≡ 21
     → ⊥
-unfolding tickTests firstRefusal refusalPaper
+unfolding tickTests firstFailing refusalPaper
 tick-refusal b = go (broken b) (eqb (b .now .0) lastInstant)
   where
     go : (t29 t24 : Bool) (why : Refusal)
-        → firstRefusal (test BrokenRecord t29 ∷ test ClockEnd t24 ∷ []) ≡ some why → refusalPaper why .number ≡ 21 → ⊥
+        → firstFailing (checkFor BrokenRecord t29 ∷ checkFor ClockEnd t24 ∷ []) ≡ some why → refusalPaper why .number ≡ 21
+        → ⊥
     go false false why e n = not-one cc
     go false true why e n = omega (arith, same-number why ClockEnd e n)
     go true t24 why e n = omega (arith, same-number why BrokenRecord e n)

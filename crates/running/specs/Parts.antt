@@ -6,6 +6,7 @@ use mathlib.Core.List.{List, [], _∷_}
 use mathlib.Core.Option.{none, some}
 use lib.Dec.{ltb}
 use lib.ListN.{length, take}
+use Rattle.laws.specs.Checks.{firstFailing}
 use Rattle.laws.specs.Each.{Each}
 use Rattle.quantities.specs.declared.Row.{Row}
 use Rattle.quantities.specs.declared.Table.{Table}
@@ -18,7 +19,7 @@ use Rattle.windows.specs.Bound.{boundsBelow}
 use Rattle.bench.specs.declared.Bench.{Bench}
 use Rattle.bench.specs.declared.Outcome.the-variants.{Taken}
 use Rattle.bench.specs.Record.{rows}
-use Rattle.bench.specs.Refusal.{firstRefusal, releaseTests}
+use Rattle.bench.specs.Refusal.{releaseTests}
 use Rattle.bench.specs.Serving.{workers}
 use Rattle.bench.specs.Fakes.{idled, once, inventing}
 use Rattle.bench.specs.Step.{Step, opened, unless, started, release, tick}
@@ -106,7 +107,7 @@ idling b =
 -- a board that counts each gap one tick short: its tests stand at the next instant
 unfoldable pub early : Bench → Call → Step
 early b (releases place demand) =
-    unless (firstRefusal (releaseTests (later b) place demand))
+    unless (firstFailing (releaseTests (later b) place demand))
     (record { outcome = Taken; finishes = []; bench = started b place demand })
     b
 early b ticks = tick b

@@ -8,7 +8,9 @@ use lib.Dec.{eqb, ltb}
 use borrow.Author.Tests.{eq-eqb, ne-eqb, le-ltb, le-leb, lt-leb, eqb-true, eqb-false, leb-false, ltb-false, not-false}
 use Rattle.laws.proofs.Tests.{or-false}
 use Rattle.quantities.specs.Limits.{rowCapacity}
-use Rattle.quantities.specs.Checks.{Check, check, firstFailing}
+use Rattle.laws.specs.Checks.{Check, firstFailing}
+use Rattle.quantities.specs.Paper.{Paper}
+use Rattle.quantities.specs.Checks.{check}
 use Rattle.quantities.specs.declared.Micros.{Micros}
 use Rattle.records.specs.Records.{boardKind, rowKind, endKind}
 use Rattle.records.specs.declared.RowFields.{RowFields}
@@ -25,7 +27,7 @@ pub sound-not-refused : (number place : ℕ) → Refused number place ≡ Sound 
 sound-not-refused number place e = let z : _≡_ {A = ℕ} 0 1 = cc in omega arith
 
 -- The first check decides where it fails, else those after it do.
-module _ (number place : ℕ) (fails : Bool) (rest : List Check) where
+module _ (number place : ℕ) (fails : Bool) (rest : List (Check Paper)) where
   pub verdict-fails : fails ≡ true → verdictOf (check number place fails ∷ rest) ≡ Refused number place
   unfolding verdictOf firstFailing
   verdict-fails e = rw e
@@ -97,7 +99,7 @@ module _ (at left : ℕ) (reading : Reading) where
     end-placed e = verdict-passes 13 at _ (endChecks at left (reading .sheet) count) e
 
 -- What a sound verdict says of the checks, and the checks of a sound verdict.
-pub sound-first : (number place : ℕ) (fails : Bool) (rest : List Check) → verdictOf (check number place fails ∷ rest) ≡ Sound
+pub sound-first : (number place : ℕ) (fails : Bool) (rest : List (Check Paper)) → verdictOf (check number place fails ∷ rest) ≡ Sound
     → (fails ≡ false) × (verdictOf rest ≡ Sound)
 sound-first number place fails rest s = go fails refl
   where

@@ -7,8 +7,10 @@ use mathlib.Core.List.{List, [], _∷_}
 use mathlib.Core.Option.{Option, none, some}
 use lib.ListN.{length, drop, length-drop}
 use Rattle.laws.specs.Each.{Each}
-use Rattle.quantities.specs.Checks.{Check, check, firstFailing, FirstFailing}
-use Rattle.quantities.proofs.Sound.{none-fails, none-found, first-failing, first-found}
+use Rattle.laws.specs.Checks.{Check, firstFailing, FirstFailing}
+use Rattle.quantities.specs.Paper.{Paper, paper}
+use Rattle.quantities.specs.Checks.{check}
+use Rattle.laws.proofs.Checks.{none-fails, none-found, first-failing, first-found}
 use Rattle.records.specs.Records.{isEnd}
 use Rattle.records.specs.declared.Record.the-variants.{Missing}
 use Rattle.records.proofs.Records.{missing-empty}
@@ -23,11 +25,11 @@ use Rattle.sheet.proofs.Checks.{sound-not-refused}
 use Rattle.sheet.proofs.Reader.{Reads, reads-new, turn-refused, turn-whole, turn-within, turn-on}
 
 -- The verdict of checks, by the first that fails.
-pub verdict-none : (checks : List Check) → Each (λ one. one .fails ≡ false) checks → verdictOf checks ≡ Sound
+pub verdict-none : (checks : List (Check Paper)) → Each (λ one. one .fails ≡ false) checks → verdictOf checks ≡ Sound
 unfolding verdictOf
 verdict-none checks passed = rw (none-found checks passed, verdictOf)
 
-pub verdict-first : (checks : List Check) (one : Check) → FirstFailing checks one
+pub verdict-first : (checks : List (Check Paper)) (one : Paper) → FirstFailing checks one
     → verdictOf checks ≡ Refused (one .number) (one .place)
 unfolding verdictOf
 verdict-first checks one first = rw (first-found checks one first, verdictOf)
@@ -37,32 +39,28 @@ pub same-refusal : (a b number place : ℕ) → Refused a b ≡ Refused number p
 same-refusal a b number place e = (cc, cc)
 
 -- What a verdict says of the checks: none fails, or the first that does has its number and its place.
-module _ (checks : List Check) where
+module _ (checks : List (Check Paper)) where
   sound-passed : verdictOf checks ≡ Sound → Each (λ one. one .fails ≡ false) checks
   unfolding verdictOf
   sound-passed s = go (firstFailing checks) refl
     where
-      go : (found : Option Check) → firstFailing checks ≡ found → Each (λ one. one .fails ≡ false) checks
+      go : (found : Option Paper) → firstFailing checks ≡ found → Each (λ one. one .fails ≡ false) checks
       go none q = none-fails checks q
       go (some one) q = absurd (sound-not-refused (one .number) (one .place) (rw (q, verdictOf) at s))
 
-  -- the first check that fails, with its number and its place
-  record Failing (number place : ℕ) : Type 0 where
-    one : Check
-    first : FirstFailing checks one
-    numbered : one .number ≡ number
-    placed : one .place ≡ place
-
-  refused-failing : (number place : ℕ) → verdictOf checks ≡ Refused number place → Failing number place
+  -- the first check that fails tells its number and its place
+  refused-failing : (number place : ℕ) → verdictOf checks ≡ Refused number place
+      → FirstFailing checks (paper number place)
   unfolding verdictOf
   refused-failing number place e = go (firstFailing checks) refl
     where
-      go : (found : Option Check) → firstFailing checks ≡ found → Failing number place
+      go : (found : Option Paper) → firstFailing checks ≡ found → FirstFailing checks (paper number place)
       go none q = absurd (sound-not-refused number place (sym (rw (q, verdictOf) at e)))
       go (some one) q =
           let given : Refused (one .number) (one .place) ≡ Refused number place = rw (q, verdictOf) at e in
           let (numbered, placed) = same-refusal (one .number) (one .place) number place given in
-          record { one = one; first = first-failing checks one q; numbered = numbered; placed = placed }
+          let same : one ≡ paper number place = ap (λ (n : ℕ). paper n (one .place)) numbered ∙ ap (paper number) placed in
+          first-failing checks (paper number place) (q ∙ ap some same)
 
 module _ (sheet : List ℕ) where
   -- what is read from behind the records up to a place is the sheet's answer
@@ -78,7 +76,7 @@ module _ (sheet : List ℕ) where
       let none = missing-empty (drop at sheet) e in
       omega (arith, read-to before .within, length-drop at sheet, none)
 
-  pub first-fault-refused : (one : Check) → FirstFault sheet one
+  pub first-fault-refused : (one : Paper) → FirstFault sheet one
       → readOf sheet ≡ refused (one .number) (one .place)
   first-fault-refused one fault =
       let reading = fault .reading in
@@ -92,9 +90,9 @@ module _ (sheet : List ℕ) where
   unfolding recordChecks
   missing-refused reading at before e =
       let checks : checksAt sheet reading at ≡ check 11 at true ∷ [] = rw e refl in
-      let first : FirstFailing (checksAt sheet reading at) (check 11 at true) =
-      record { before = []; after = []; stands = checks; failed = refl; passed = tt } in
-      first-fault-refused (check 11 at true) (record { reading = reading; at = at; before = before; first = first })
+      let first : FirstFailing (checksAt sheet reading at) (paper 11 at) =
+      record { before = []; after = []; stands = checks; passed = tt } in
+      first-fault-refused (paper 11 at) (record { reading = reading; at = at; before = before; first = first })
       ∙ ap (refused 11) (missing-at-end reading at before e)
 
   -- A refused sheet: the records are read in turn, until one has a check that fails.
@@ -107,12 +105,8 @@ module _ (sheet : List ℕ) where
         let answer = turn-refused sheet reading at (read-to before) a b v in
         let same = same-refusal a b number place (ap (λ (o : Outcome). o .verdict) answer ∙ e) in
         let found = refused-failing (checksAt sheet reading at) a b v in
-        record {
-          one = found .one;
-          fault = record { reading = reading; at = at; before = before; first = found .first };
-          numbered = found .numbered ∙ same .0;
-          placed = found .placed ∙ same .1;
-        }
+        let fault : FaultAt sheet a b = record { reading = reading; at = at; before = before; first = found } in
+        rw (same .0, same .1) at fault
 
     -- no end record is taken
     not-taken : (reading : Reading) (at : ℕ) → ReadTo sheet reading at

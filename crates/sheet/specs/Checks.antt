@@ -5,7 +5,9 @@ use mathlib.Core.List.{List, [], _∷_}
 use mathlib.Core.Option.{none, some}
 use lib.Dec.{eqb, leb, ltb}
 use Rattle.quantities.specs.Limits.{rowCapacity}
-use Rattle.quantities.specs.Checks.{Check, check, firstFailing}
+use Rattle.laws.specs.Checks.{Check, firstFailing}
+use Rattle.quantities.specs.Paper.{Paper}
+use Rattle.quantities.specs.Checks.{check}
 use Rattle.quantities.specs.declared.Micros.{Micros}
 use Rattle.records.specs.Records.{boardKind, rowKind, endKind, recordLength}
 use Rattle.records.specs.declared.Record.{Record}
@@ -25,11 +27,11 @@ unfoldable pub misplaced : Bool → ℕ → Bool
 misplaced begun kind = cond begun (eqb kind boardKind) (not (eqb kind boardKind))
 
 -- the check of a board record's tick length, at the record's place
-unfoldable pub boardChecks : ℕ → Micros → List Check
+unfoldable pub boardChecks : ℕ → Micros → List (Check Paper)
 boardChecks at tick = check 19 at (eqb (tick .0) 0) ∷ []
 
 -- the checks of a row record with this priority, after the rows that the sheet has so far
-unfoldable pub rowChecks : ℕ → Sheet → ℕ → List Check
+unfoldable pub rowChecks : ℕ → Sheet → ℕ → List (Check Paper)
 rowChecks at sheet priority =
     check 14 at (leb rowCapacity (sheet .count))
     ∷ check 16 at (eqb priority 0 || ltb topPriority priority)
@@ -37,18 +39,18 @@ rowChecks at sheet priority =
     ∷ []
 
 -- the checks of an end record with this count, with so many bytes from its kind byte on
-unfoldable pub endChecks : ℕ → ℕ → Sheet → ℕ → List Check
+unfoldable pub endChecks : ℕ → ℕ → Sheet → ℕ → List (Check Paper)
 endChecks at left sheet count =
     check 17 at (not (eqb count (sheet .count)))
     ∷ check 18 (at + recordLength endKind) (ltb (recordLength endKind) left)
     ∷ []
 
 -- the check that a record of a kind stands where it may
-abbrev pub placeCheck : ℕ → Reading → ℕ → Check
+abbrev pub placeCheck : ℕ → Reading → ℕ → Check Paper
 placeCheck at reading kind = check 13 at (misplaced (reading .begun) kind)
 
 -- the checks of what was found at a place, with so many bytes from there on
-unfoldable pub recordChecks : ℕ → ℕ → Reading → Record → List Check
+unfoldable pub recordChecks : ℕ → ℕ → Reading → Record → List (Check Paper)
 recordChecks at left reading Missing = check 11 at true ∷ []
 recordChecks at left reading Unknown = check 12 at true ∷ []
 recordChecks at left reading (Cut kind) = placeCheck at reading kind ∷ check 11 at true ∷ []
@@ -59,6 +61,6 @@ recordChecks at left reading (End count) =
     placeCheck at reading endKind ∷ endChecks at left (reading .sheet) count
 
 -- the verdict of checks: the number and the place of the first one that fails
-unfoldable pub verdictOf : List Check → Verdict
+unfoldable pub verdictOf : List (Check Paper) → Verdict
 verdictOf checks =
-    elim (firstFailing checks) [ none ↦ Sound | some failed ↦ Refused (failed .number) (failed .place) ]
+    elim (firstFailing checks) [ none ↦ Sound | some told ↦ Refused (told .number) (told .place) ]

@@ -7,7 +7,8 @@ use mathlib.Core.List.{List, _++_}
 use lib.ListN.{length, take, drop}
 use Rattle.laws.specs.Each.{Each}
 use Rattle.laws.specs.Permuted.{Permuted}
-use Rattle.quantities.specs.Checks.{Check, FirstFailing}
+use Rattle.laws.specs.Checks.{Check, FirstFailing}
+use Rattle.quantities.specs.Paper.{Paper, paper}
 use Rattle.records.specs.Records.{boardKind, rowKind, recordOn, sizeOf, isEnd, OneRecord}
 use Rattle.sheet.specs.Entries.{entriesOf}
 use Rattle.sheet.specs.Whole.{joined, entriesOn, tickOn}
@@ -21,7 +22,7 @@ abbrev pub recordAt : List ℕ → ℕ → Record
 recordAt sheet at = recordOn (drop at sheet)
 
 -- its checks, in their order, after the records that gave this reading
-abbrev pub checksAt : List ℕ → Reading → ℕ → List Check
+abbrev pub checksAt : List ℕ → Reading → ℕ → List (Check Paper)
 checksAt sheet reading at = recordChecks at (length (drop at sheet)) reading (recordAt sheet at)
 
 -- The records up to a place are read and gave this reading: none fails a check, and none is the end record.
@@ -50,16 +51,13 @@ ReadToMeans =
     (sheet : List ℕ) (reading : Reading) (at : ℕ) → ReadTo sheet reading at
     → ((at ≡ 0) × (reading ≡ newReading)) ⊎ RowsRead sheet reading at
 
--- One check is the first of a sheet that fails: the records before are read, and it is the first of its own.
-pub record FirstFault (sheet : List ℕ) (one : Check) : Type 0 where
+-- The first check of a sheet that fails tells this: the records before are read, and it is the first of its own.
+pub record FirstFault (sheet : List ℕ) (one : Paper) : Type 0 where
   pub reading : Reading
   pub at : ℕ
   pub before : ReadTo sheet reading at
   pub first : FirstFailing (checksAt sheet reading at) one
 
 -- The first fault of a sheet has this number and this place.
-pub record FaultAt (sheet : List ℕ) (number place : ℕ) : Type 0 where
-  pub one : Check
-  pub fault : FirstFault sheet one
-  pub numbered : one .number ≡ number
-  pub placed : one .place ≡ place
+abbrev pub FaultAt : List ℕ → (number place : ℕ) → Type 0
+FaultAt sheet number place = FirstFault sheet (paper number place)

@@ -4,8 +4,7 @@ use mathlib.Core.Path.{_≡_}
 use mathlib.Core.List.{List, map}
 use lib.ListN.{length, take}
 use Rattle.laws.specs.Permuted.{Permuted}
-use Rattle.quantities.specs.Checks.{Check}
-use Rattle.quantities.specs.Paper.{paper}
+use Rattle.quantities.specs.Paper.{Paper, paper}
 use Rattle.quantities.specs.Table.{rowsOf}
 use Rattle.sheet.specs.Entries.{entriesOf, tableOf, Rising}
 use Rattle.sheet.specs.Reader.{noSheet, refused, readOf, paperOf}
@@ -62,7 +61,7 @@ NoTableRefused =
 -- A sheet with a fault is turned away by its first one, with the number and the place of the failing check, and no table.
 abbrev pub FaultySheetTurnedAway : Type 0
 FaultySheetTurnedAway =
-    (sheet : List ℕ) (one : Check) → FirstFault sheet one
+    (sheet : List ℕ) (one : Paper) → FirstFault sheet one
     → (paperOf (readOf sheet .verdict) ≡ paper (one .number) (one .place)) × (readOf sheet .sheet ≡ noSheet)
 
 -- Where no byte stands, the sheet is refused by 11, and the place is its length.

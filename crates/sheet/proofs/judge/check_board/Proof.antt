@@ -1,6 +1,6 @@
 -- check_board answers the verdict on a board record's fields.
 use borrow.Author.Tests.{eq-eqb, ne-eqb}
-use Rattle.quantities.specs.Checks.{firstFailing}
+use Rattle.laws.specs.Checks.{firstFailing}
 use Rattle.sheet.specs.Checks.{boardChecks, verdictOf}
 use Rattle.sheet.proofs.judge.check_board.Statement.{statement}
 use Rattle.sheet.proofs.judge.check_board.Tie as tie

@@ -1,6 +1,6 @@
 -- check_end answers the verdict on an end record's fields.
 use borrow.Author.Tests.{eq-eqb, ne-eqb, lt-ltb, le-ltb}
-use Rattle.quantities.specs.Checks.{firstFailing}
+use Rattle.laws.specs.Checks.{firstFailing}
 use Rattle.records.proofs.Records.{length-end}
 use Rattle.sheet.specs.Checks.{endChecks, verdictOf}
 use borrow.Author.Needs.{needs}

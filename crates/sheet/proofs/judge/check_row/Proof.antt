@@ -1,7 +1,7 @@
 -- check_row answers the verdict on a row record's fields.
 use mathlib.Core.Path.{sym, _∙_}
 use borrow.Author.Tests.{eq-eqb, ne-eqb, lt-ltb, le-ltb, le-leb, lt-leb}
-use Rattle.quantities.specs.Checks.{firstFailing}
+use Rattle.laws.specs.Checks.{firstFailing}
 use Rattle.sheet.specs.Checks.{rowChecks, verdictOf}
 use borrow.Author.Needs.{needs}
 use Rattle.sheet.proofs.judge.check_row.Statement.{statement}
