@@ -123,6 +123,7 @@ fn carry_work(cost: Ticks, gap: Ticks, bound: Ticks, window: Ticks) -> Ticks
 {
     let cost = cost.0;
     let gap = gap.0;
+    let bound = bound.0;
     if window.0 < cost {
         return Ticks(cost);
     }

@@ -27,7 +27,7 @@ use Rattle.bench.specs.History.{Call, releases, ticks, doCall, after, is
 use Rattle.bench.proofs.Record.{sound-fits}
 use Rattle.bench.proofs.Permitted.{MayRelease, may-release}
 use Rattle.bench.proofs.Units.{unit-le-work, worked-at}
-use Rattle.bench.proofs.Steps.{release-taken, release-refused, tick-taken, tick-refused}
+use Rattle.bench.proofs.Steps.{release-taken, release-refused, tick-taken, tick-refused, same-board}
 use Rattle.bench.proofs.Kept.{Kept, kept-call, kept-opened, opened-empty}
 
 -- A permitted release at a place, seen from that place and from another.
@@ -100,17 +100,7 @@ module _ (b : Bench) (k : Kept b) (place : ℕ) (low : 0 < place) (high : place 
 
 -- the rows of the bench stay
 pub same-rows : (b : Bench) (call : Call) → rows (doCall b call .bench) ≡ rows b
-unfolding taken moved started
-same-rows b (releases place demand) = go (firstFailing (releaseTests b place demand)) refl
-  where
-    go : (found : Option Refusal) → firstFailing (releaseTests b place demand) ≡ found → rows (release b place demand .bench) ≡ rows b
-    go none q = rw (release-taken b place demand q)
-    go (some why) q = rw (release-refused b place demand why q)
-same-rows b ticks = go (firstFailing (tickTests b)) refl
-  where
-    go : (found : Option Refusal) → firstFailing (tickTests b) ≡ found → rows (tick b .bench) ≡ rows b
-    go none q = rw (tick-taken b q)
-    go (some why) q = rw (tick-refused b why q)
+same-rows b call = ap rowsOf (same-board b call .1)
 
 -- A history balances, from any well kept bench,
 pub balance : (calls : List Call) (b : Bench) → Kept b → (place : ℕ) → 0 < place → place ≤ length (rows b)

@@ -16,9 +16,9 @@ use Rattle.bench.specs.Record.{idle, work, stateAt, lastBroken, rowBroke
 use Rattle.bench.specs.Refusal.{tickTests, refusalPaper}
 use Rattle.bench.specs.Serving.{unit, units, workers, less, worked, ends, since, finishOf, finished}
 use Rattle.bench.specs.Step.{fresh, unless, served, moved, taken, tick}
-use Rattle.bench.specs.History.{ticks}
+use Rattle.bench.specs.History.{ticks, callTests}
 use Rattle.bench.specs.TickRule.{Gets, PollEnds}
-use Rattle.bench.specs.Rules.{callTests, callChecks, PermittedCall, TicksByRule}
+use Rattle.bench.specs.Rules.{callChecks, PermittedCall, TicksByRule}
 use Rattle.bench.specs.Fakes.{idled, once, invented, inventing, FakeTicksCaught, NoOtherTick}
 use Rattle.bench.proofs.Rules.{ticks-by-rule}
 use Rattle.bench.proofs.OneStep.{one-tick}

@@ -2,9 +2,7 @@
 use Prim.Native.Nat.{ℕ, suc, _≤_, _<_}
 use native.Mathlib.Omega.{arith}
 use mathlib.Core.Path.{_≡_, refl}
-use mathlib.Core.Option.{Option, none, some}
 use lib.ListN.{length}
-use Rattle.laws.specs.Checks.{firstFailing}
 use Rattle.laws.specs.Each.{Each}
 use Rattle.laws.proofs.Lists.{each-map}
 use Rattle.quantities.specs.Limits.{rowCapacity}
@@ -12,15 +10,13 @@ use Rattle.quantities.proofs.Rows.{length-rows}
 use Rattle.bench.specs.declared.Last.{Last}
 use Rattle.bench.specs.declared.Last.the-variants.{Never, At}
 use Rattle.bench.specs.declared.Bench.{Bench}
-use Rattle.bench.specs.declared.Refusal.{Refusal}
 use Rattle.bench.specs.declared.Finish.{Finish}
 use Rattle.bench.specs.Record.{lastInstant, rows, stateAt}
-use Rattle.bench.specs.Refusal.{tickTests}
 use Rattle.bench.specs.Serving.{since}
-use Rattle.bench.specs.Step.{taken, tick}
+use Rattle.bench.specs.Step.{Step, taken, tick}
+use Rattle.bench.specs.History.{ticks}
 use Rattle.bench.proofs.Record.{whole-of, sound-fits}
-use Rattle.bench.proofs.Permitted.{may-tick}
-use Rattle.bench.proofs.Steps.{tick-taken, tick-refused}
+use Rattle.bench.proofs.Steps.{CallCase, refused, ticked, call-case}
 use Rattle.bench.proofs.Responses.{Ends, each-ends}
 
 -- A poll whose place and response are no larger than a row's place and an instant can be.
@@ -42,14 +38,13 @@ ends-fit b few early poll e =
 
 -- Each poll is so, for any record: a tick at the clock's end, or with more rows than a table keeps, is refused.
 pub polls-fit : (b : Bench) → Each Fits (tick b .finishes)
-polls-fit b = go (firstFailing (tickTests b)) refl
+polls-fit b = at (call-case b ticks)
   where
-    go : (found : Option Refusal) → firstFailing (tickTests b) ≡ found → Each Fits (tick b .finishes)
-    go (some why) q = rw (tick-refused b why q) tt
-    go none q =
-        let may = may-tick b q in
+    at : {step : Step} → CallCase b ticks step → Each Fits (step .finishes)
+    at (refused why q) = tt
+    at (ticked q may) =
         let whole = whole-of b (may .whole) in
         let few = sound-fits (b .cores) (b .table) (whole .sound) in
         let early : b .now .0 < lastInstant = omega (arith, whole .in-time, may .clock) in
         let fit = ends-fit b (omega (arith, length-rows (b .table), few)) early in
-        rw (tick-taken b q) (each-map fit (taken b .finishes) (each-ends b))
+        each-map fit (taken b .finishes) (each-ends b)

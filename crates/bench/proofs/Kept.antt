@@ -28,13 +28,13 @@ use Rattle.bench.specs.declared.Outcome.the-variants.{Taken, Refused}
 use Rattle.bench.specs.Record.{lastInstant, idle, work, rows, rowAt, lastBroken, rowBroken, rowsBroken, broken}
 use Rattle.bench.specs.Refusal.{releaseTests, tickTests}
 use Rattle.bench.specs.Serving.{less, worked}
-use Rattle.bench.specs.Step.{emptyBench, openedAfter, opened, fresh, started, served, moved, taken, release, tick}
-use Rattle.bench.specs.History.{Call, releases, ticks, doCall, after}
+use Rattle.bench.specs.Step.{Step, emptyBench, openedAfter, opened, fresh, started, served, moved, taken, tick}
+use Rattle.bench.specs.History.{Call, releases, ticks, callTests, doCall, after}
 use Rattle.bench.proofs.Record.{Whole, whole-of, whole-unbroken}
-use Rattle.bench.proofs.Permitted.{MayRelease, may-release, MayTick, may-tick, tick-24}
+use Rattle.bench.proofs.Permitted.{MayRelease, MayTick, tick-24}
 use Rattle.bench.proofs.Rows.{less-none}
 use Rattle.bench.proofs.Units.{length-worked}
-use Rattle.bench.proofs.Steps.{refusedStep, release-taken, release-refused, tick-taken, tick-refused}
+use Rattle.bench.proofs.Steps.{refusedStep, tick-refused, CallCase, refused, released, ticked, call-case}
 
 -- A well kept bench: its record is whole, and it has a state for each row that a table can hold.
 pub record Kept (b : Bench) : Type 0 where
@@ -182,16 +182,12 @@ kept-moved b k m =
 -- each call keeps it,
 pub kept-call : (b : Bench) (call : Call) → Kept b → Kept (doCall b call .bench)
 unfolding taken
-kept-call b (releases place demand) k = go (firstFailing (releaseTests b place demand)) refl
+kept-call b call k = at (call-case b call)
   where
-    go : (found : Option Refusal) → firstFailing (releaseTests b place demand) ≡ found → Kept (release b place demand .bench)
-    go none q = rw (release-taken b place demand q) (kept-started b place demand k (may-release b place demand q))
-    go (some why) q = rw (release-refused b place demand why q) k
-kept-call b ticks k = go (firstFailing (tickTests b)) refl
-  where
-    go : (found : Option Refusal) → firstFailing (tickTests b) ≡ found → Kept (tick b .bench)
-    go none q = rw (tick-taken b q) (kept-moved b k (may-tick b q))
-    go (some why) q = rw (tick-refused b why q) k
+    at : {one : Call} {step : Step} → CallCase b one step → Kept (step .bench)
+    at (refused why q) = k
+    at (released {place} {demand} q may) = kept-started b place demand k may
+    at (ticked q may) = kept-moved b k may
 
 -- and so does each history.
 pub kept-after : (calls : List Call) (b : Bench) → Kept b → Kept (after b calls)
@@ -216,23 +212,22 @@ tick-not-29 b w e =
     told-has (λ why. why ≡ BrokenRecord → ⊥) BrokenRecord _ (differs (λ q. cc), tt)
     (sym (first-passes (checkFor BrokenRecord (broken b)) _ w) ∙ e) refl
 
+call-not-29 : (b : Bench) (call : Call) → broken b ≡ false → firstFailing (callTests b call) ≡ some BrokenRecord → ⊥
+unfolding callTests
+call-not-29 b (releases place demand) = release-not-29 b place demand
+call-not-29 b ticks = tick-not-29 b
+
 -- A call on a well kept bench never gives 29.
 pub kept-no-29 : (b : Bench) (call : Call) → Kept b → doCall b call .outcome ≡ Refused BrokenRecord → ⊥
 unfolding taken
-kept-no-29 b (releases place demand) k = go (firstFailing (releaseTests b place demand)) refl
+kept-no-29 b call k = at (call-case b call)
   where
-    go : (found : Option Refusal) → firstFailing (releaseTests b place demand) ≡ found → release b place demand .outcome ≡ Refused BrokenRecord → ⊥
-    go none q e = let z : _≡_ {A = ℕ} 0 1 = cc (release-taken b place demand q) in omega arith
-    go (some why) q e =
-        let same : why ≡ BrokenRecord = cc (release-refused b place demand why q) in
-        release-not-29 b place demand (whole-unbroken b (k .whole)) (q ∙ ap some same)
-kept-no-29 b ticks k = go (firstFailing (tickTests b)) refl
-  where
-    go : (found : Option Refusal) → firstFailing (tickTests b) ≡ found → tick b .outcome ≡ Refused BrokenRecord → ⊥
-    go none q e = let z : _≡_ {A = ℕ} 0 1 = cc (tick-taken b q) in omega arith
-    go (some why) q e =
-        let same : why ≡ BrokenRecord = cc (tick-refused b why q) in
-        tick-not-29 b (whole-unbroken b (k .whole)) (q ∙ ap some same)
+    at : {one : Call} {step : Step} → CallCase b one step → step .outcome ≡ Refused BrokenRecord → ⊥
+    at {one} (refused why q) e =
+        let same : why ≡ BrokenRecord = cc in
+        call-not-29 b one (whole-unbroken b (k .whole)) (q ∙ ap some same)
+    at (released q may) e = let z : _≡_ {A = ℕ} 0 1 = cc in omega arith
+    at (ticked q may) e = let z : _≡_ {A = ℕ} 0 1 = cc in omega arith
 
 pub opened-no-29 : (cores : ℕ) (table : Table) (b : Bench) → opened cores table ≡ some b → (calls : List Call) (call : Call)
     → doCall (after b calls) call .outcome ≡ Refused BrokenRecord → ⊥

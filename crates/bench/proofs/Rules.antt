@@ -27,8 +27,8 @@ use Rattle.bench.specs.Refusal.{tooSoon, releaseTests, tickTests}
 use Rattle.bench.specs.Refusal.{refusalPaper, paperOf}
 use Rattle.bench.specs.Step.{emptyBench, openedAfter, opened, benchOr, openingOf}
 use Rattle.bench.specs.Step.{Step, fresh, started, release, taken, tick}
-use Rattle.bench.specs.History.{Call, releases, ticks, doCall, after}
-use Rattle.bench.specs.Rules.{callTests, callChecks, PermittedCall, ReleaseChecks, TickChecks}
+use Rattle.bench.specs.History.{Call, releases, ticks, callTests, doCall, after}
+use Rattle.bench.specs.Rules.{callChecks, PermittedCall, ReleaseChecks, TickChecks}
 use Rattle.bench.specs.Rules.{CallTurnedAway, CallTaken, RefusedCallHasFault, RefusedUnchanged}
 use Rattle.bench.specs.Rules.{FaultyTableNotOpened, SoundTableOpened, OpenedHolds}
 use Rattle.bench.specs.Rules.{ReleasesByRule, TicksByRule}
@@ -37,8 +37,8 @@ use Rattle.bench.specs.Rules.{BooksBalance, NeverBroken, ClockEnds}
 use Rattle.bench.proofs.Record.{whole-of, sound-fits}
 use Rattle.bench.proofs.Permitted.{may-release, may-tick, tick-24}
 use Rattle.bench.proofs.Gaps.{gap-over, first-never-soon}
-use Rattle.bench.proofs.Steps.{refusedStep, release-taken, release-refused, tick-taken, tick-refused}
-use Rattle.bench.proofs.Steps.{refused-same, same-board}
+use Rattle.bench.proofs.Steps.{release-taken, tick-taken, tick-refused}
+use Rattle.bench.proofs.Steps.{refused-step, refused-same, same-board}
 use Rattle.bench.proofs.Kept.{Kept, opened-empty, opened-no-29}
 use Rattle.bench.proofs.Balance.{started-here, started-elsewhere, empty-balance}
 use Rattle.bench.proofs.TickRule.{taken-rule}
@@ -55,13 +55,6 @@ tick-checks b = refl
 permitted : (b : Bench) (call : Call) → PermittedCall b call → firstFailing (callTests b call) ≡ none
 unfolding callChecks
 permitted b call p = none-found (callTests b call) (retold-none refusalPaper (callTests b call) p)
-
--- a call does what its tests say
-refused-step : (b : Bench) (call : Call) (why : Refusal) → firstFailing (callTests b call) ≡ some why
-    → doCall b call ≡ refusedStep why b
-unfolding callTests
-refused-step b (releases place demand) why e = release-refused b place demand why e
-refused-step b ticks why e = tick-refused b why e
 
 pub call-turned-away : CallTurnedAway
 unfolding callChecks paperOf

@@ -1,6 +1,6 @@
 -- A call is taken where its tests permit it; else it is refused and nothing changes.
 use Prim.Native.Nat.{ℕ}
-use mathlib.Core.Path.{_≡_, refl}
+use mathlib.Core.Path.{_≡_, refl, ap}
 use mathlib.Core.List.{[]}
 use mathlib.Core.Option.{Option, none, some}
 use native.Mathlib.Omega.{arith}
@@ -13,72 +13,92 @@ use Rattle.bench.specs.declared.Refusal.{Refusal}
 use Rattle.bench.specs.declared.Outcome.the-variants.{Taken, Refused}
 use Rattle.bench.specs.Refusal.{releaseTests, tickTests}
 use Rattle.bench.specs.Step.{Step, unless, started, release, moved, taken, tick, releasedOf, tickedOf}
-use Rattle.bench.specs.History.{Call, releases, ticks, doCall}
+use Rattle.bench.specs.History.{Call, releases, ticks, callTests, doCall}
+use Rattle.bench.proofs.Permitted.{MayRelease, may-release, MayTick, may-tick}
 
 abbrev pub refusedStep : Refusal → Bench → Step
 refusedStep why b = record { outcome = Refused why; finishes = []; bench = b }
 
-module _ (b : Bench) (place demand : ℕ) where
-  pub release-taken : firstFailing (releaseTests b place demand) ≡ none
-      → release b place demand ≡ record { outcome = Taken; finishes = []; bench = started b place demand }
-  unfolding release unless
-  release-taken e = rw (e, unless)
+abbrev pub releasedStep : Bench → (place demand : ℕ) → Step
+releasedStep b place demand = record { outcome = Taken; finishes = []; bench = started b place demand }
 
-  pub release-refused : (why : Refusal) → firstFailing (releaseTests b place demand) ≡ some why → release b place demand ≡ refusedStep why b
-  unfolding release unless
-  release-refused why e = rw (e, unless)
+-- What a call comes to: it is refused and nothing changes, or a poll starts, or the rows are served.
+pub data CallCase (b : Bench) : Call → Step → Type 0 where
+  refused : {call : Call} (why : Refusal) → firstFailing (callTests b call) ≡ some why
+      → CallCase b call (refusedStep why b)
+  released : {place demand : ℕ} → firstFailing (callTests b (releases place demand)) ≡ none
+      → MayRelease b place demand → CallCase b (releases place demand) (releasedStep b place demand)
+  ticked : firstFailing (callTests b ticks) ≡ none → MayTick b → CallCase b ticks (taken b)
 
-module _ (b : Bench) where
-  pub tick-taken : firstFailing (tickTests b) ≡ none → tick b ≡ taken b
-  unfolding tick unless
-  tick-taken e = rw (e, unless)
+pub call-case : (b : Bench) (call : Call) → CallCase b call (doCall b call)
+unfolding callTests release tick unless
+call-case b (releases place demand) = at (firstFailing (releaseTests b place demand)) refl
+  where
+    at : (found : Option Refusal) → firstFailing (releaseTests b place demand) ≡ found
+        → CallCase b (releases place demand) (unless found (releasedStep b place demand) b)
+    at none q = released q (may-release b place demand q)
+    at (some why) q = refused why q
+call-case b ticks = at (firstFailing (tickTests b)) refl
+  where
+    at : (found : Option Refusal) → firstFailing (tickTests b) ≡ found → CallCase b ticks (unless found (taken b) b)
+    at none q = ticked q (may-tick b q)
+    at (some why) q = refused why q
 
-  pub tick-refused : (why : Refusal) → firstFailing (tickTests b) ≡ some why → tick b ≡ refusedStep why b
-  unfolding tick unless
-  tick-refused why e = rw (e, unless)
+-- what a call does, where its tests say that it is taken, or refused
+pub refused-step : (b : Bench) (call : Call) (why : Refusal) → firstFailing (callTests b call) ≡ some why
+    → doCall b call ≡ refusedStep why b
+unfolding callTests release tick unless
+refused-step b (releases place demand) why e = rw (e, unless)
+refused-step b ticks why e = rw (e, unless)
+
+pub release-refused : (b : Bench) (place demand : ℕ) (why : Refusal)
+    → firstFailing (releaseTests b place demand) ≡ some why → release b place demand ≡ refusedStep why b
+unfolding callTests
+release-refused b place demand why e = refused-step b (releases place demand) why e
+
+pub tick-refused : (b : Bench) (why : Refusal) → firstFailing (tickTests b) ≡ some why → tick b ≡ refusedStep why b
+unfolding callTests
+tick-refused b why e = refused-step b ticks why e
+
+pub release-taken : (b : Bench) (place demand : ℕ) → firstFailing (releaseTests b place demand) ≡ none
+    → release b place demand ≡ releasedStep b place demand
+unfolding release unless
+release-taken b place demand e = rw (e, unless)
+
+pub tick-taken : (b : Bench) → firstFailing (tickTests b) ≡ none → tick b ≡ taken b
+unfolding tick unless
+tick-taken b e = rw (e, unless)
 
 -- A refused call changes nothing on the bench.
-pub refused-same : (b : Bench) (call : Call) (why : Refusal) → doCall b call .outcome ≡ Refused why → doCall b call ≡ refusedStep why b
+pub refused-same : (b : Bench) (call : Call) (why : Refusal) → doCall b call .outcome ≡ Refused why
+    → doCall b call ≡ refusedStep why b
 unfolding taken
-refused-same b (releases place demand) why = go (firstFailing (releaseTests b place demand)) refl
+refused-same b call why = at (call-case b call)
   where
-    go : (found : Option Refusal) → firstFailing (releaseTests b place demand) ≡ found → release b place demand .outcome ≡ Refused why
-        → release b place demand ≡ refusedStep why b
-    go none q e = let z : _≡_ {A = ℕ} 0 1 = cc (release-taken b place demand q) in absurd (omega arith)
-    go (some other) q e =
-        let same : other ≡ why = cc (release-refused b place demand other q) in
-        rw same at (release-refused b place demand other q)
-refused-same b ticks why = go (firstFailing (tickTests b)) refl
-  where
-    go : (found : Option Refusal) → firstFailing (tickTests b) ≡ found → tick b .outcome ≡ Refused why → tick b ≡ refusedStep why b
-    go none q e = let z : _≡_ {A = ℕ} 0 1 = cc (tick-taken b q) in absurd (omega arith)
-    go (some other) q e =
-        let same : other ≡ why = cc (tick-refused b other q) in
-        rw same at (tick-refused b other q)
+    at : {one : Call} {step : Step} → CallCase b one step → step .outcome ≡ Refused why → step ≡ refusedStep why b
+    at (refused other q) e = let same : other ≡ why = cc in ap (λ w. refusedStep w b) same
+    at (released q may) e = let z : _≡_ {A = ℕ} 0 1 = cc in absurd (omega arith)
+    at (ticked q may) e = let z : _≡_ {A = ℕ} 0 1 = cc in absurd (omega arith)
 
 -- No call changes the board.
-pub same-board : (b : Bench) (call : Call) → (doCall b call .bench .cores ≡ b .cores) × (doCall b call .bench .table ≡ b .table)
+pub same-board : (b : Bench) (call : Call)
+    → (doCall b call .bench .cores ≡ b .cores) × (doCall b call .bench .table ≡ b .table)
 unfolding taken moved started
-same-board b (releases place demand) = go (firstFailing (releaseTests b place demand)) refl
+same-board b call = at (call-case b call)
   where
-    go : (found : Option Refusal) → firstFailing (releaseTests b place demand) ≡ found
-        → (release b place demand .bench .cores ≡ b .cores) × (release b place demand .bench .table ≡ b .table)
-    go none q = rw (release-taken b place demand q) (refl, refl)
-    go (some why) q = rw (release-refused b place demand why q) (refl, refl)
-same-board b ticks = go (firstFailing (tickTests b)) refl
-  where
-    go : (found : Option Refusal) → firstFailing (tickTests b) ≡ found
-        → (tick b .bench .cores ≡ b .cores) × (tick b .bench .table ≡ b .table)
-    go none q = rw (tick-taken b q) (refl, refl)
-    go (some why) q = rw (tick-refused b why q) (refl, refl)
+    at : {one : Call} {step : Step} → CallCase b one step
+        → (step .bench .cores ≡ b .cores) × (step .bench .table ≡ b .table)
+    at (refused why q) = (refl, refl)
+    at (released q may) = (refl, refl)
+    at (ticked q may) = (refl, refl)
 
 -- A release ends no poll, so that its answer as one of a call lists none.
 pub release-no-polls : (b : Bench) (place demand : ℕ) → release b place demand .finishes ≡ []
-release-no-polls b place demand = go (firstFailing (releaseTests b place demand)) refl
+release-no-polls b place demand = at (call-case b (releases place demand))
   where
-    go : (found : Option Refusal) → firstFailing (releaseTests b place demand) ≡ found → release b place demand .finishes ≡ []
-    go none q = rw (release-taken b place demand q)
-    go (some why) q = rw (release-refused b place demand why q)
+    at : {step : Step} → CallCase b (releases place demand) step → step .finishes ≡ []
+    at (refused why q) = refl
+    at (released q may) = refl
 
 pub released-answer : (b : Bench) (place demand : ℕ) (r : Released) → r ≡ releasedOf (release b place demand) → (f : Finishes) → f ≡ finishesOf []
     → record { outcome = r .outcome; finishes = f; bench = r .bench } ≡ tickedOf (release b place demand)

@@ -5,12 +5,15 @@ use mathlib.Core.Bool.{Bool, true, false, _&&_}
 use mathlib.Core.List.{List, [], _∷_}
 use lib.Dec.{eqb, leb, ltb}
 use lib.ListN.{getD, take}
+use Rattle.laws.specs.Checks.{Check}
 use Rattle.bench.specs.declared.Bench.{Bench}
+use Rattle.bench.specs.declared.Refusal.{Refusal}
 use Rattle.bench.specs.declared.Request.{Request}
 use Rattle.bench.specs.declared.Request.the-variants.{Release, Tick}
 use Rattle.bench.specs.declared.Outcome.{Outcome}
 use Rattle.bench.specs.declared.Outcome.the-variants.{Taken, Refused}
 use Rattle.bench.specs.declared.Finish.{Finish}
+use Rattle.bench.specs.Refusal.{releaseTests, tickTests}
 use Rattle.bench.specs.Step.{Step, release, tick, served}
 
 -- A call on a bench: a release of a demand at a place, or a tick.
@@ -22,6 +25,11 @@ pub data Call : Type 0 where
 unfoldable pub callOf : Request → Call
 callOf (Release place demand) = releases place (demand .0)
 callOf Tick = ticks
+
+-- the tests of a call, in their order
+unfoldable pub callTests : Bench → Call → List (Check Refusal)
+callTests b (releases place demand) = releaseTests b place demand
+callTests b ticks = tickTests b
 
 -- what a call does
 abbrev pub doCall : Bench → Call → Step

@@ -22,16 +22,12 @@ use Rattle.bench.specs.declared.Refusal.{Refusal}
 use Rattle.bench.specs.declared.Refusal.the-variants.{BrokenRecord}
 use Rattle.bench.specs.declared.Outcome.the-variants.{Taken, Refused}
 use Rattle.bench.specs.Record.{idle, rows, rowAt, stateAt, work, broken}
-use Rattle.bench.specs.Refusal.{tooSoon, releaseTests, tickTests, refusalPaper, paperOf}
+use Rattle.bench.specs.Refusal.{tooSoon, refusalPaper, paperOf}
 use Rattle.bench.specs.Step.{emptyBench, noBench, opened, openingOf, Step, fresh, release, tick}
-use Rattle.bench.specs.History.{Call, releases, ticks, doCall, after, accepted, servedIn}
+use Rattle.bench.specs.History.{Call, releases, ticks, callTests, doCall, after, accepted, servedIn}
 use Rattle.bench.specs.TickRule.{TickRule}
 
 -- The checks of a call, in their order: its tests, each with its number and place in document 01.
-unfoldable pub callTests : Bench → Call → List (Check Refusal)
-callTests b (releases place demand) = releaseTests b place demand
-callTests b ticks = tickTests b
-
 unfoldable pub callChecks : Bench → Call → List (Check Paper)
 callChecks b call = map (retold refusalPaper) (callTests b call)
 

@@ -48,7 +48,7 @@ returns-2 c = ap ticks (omega arith)
 
 add-begun : tie.Need-add-begun
 add-begun c =
-    let s = c .before .before .before .before .before .before in
+    let s = c .before .before .before .before .before in
     omega (arith, within (s .args .cost) (s .args .gap) (s .args .window) (s .pre .1))
 
 returns-3 : tie.Need-returns-3
@@ -60,7 +60,7 @@ sub-full c = search needs
 
 add-full : tie.Need-add-full
 add-full c =
-    let s = c .before .before .before .before .before .before in
+    let s = c .before .before .before .before .before in
     omega (arith, within (s .args .cost) (s .args .gap) (s .args .window) (s .pre .1))
 
 returns-4 : tie.Need-returns-4
