@@ -132,7 +132,7 @@ fn carry_work(cost: Ticks, gap: Ticks, bound: Ticks, window: Ticks) -> Ticks
     let rest = before % gap;
     let whole = gaps * cost + cost;
     // from the bound to the next release
-    let idle = gap - gap;
+    let idle = gap - bound;
     if rest < idle {
         return Ticks(whole);
     }
