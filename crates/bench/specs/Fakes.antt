@@ -7,23 +7,13 @@ use Rattle.quantities.specs.Limits.{rowCapacity}
 use Rattle.bench.specs.declared.Bench.{Bench}
 use Rattle.bench.specs.declared.Finish.{Finish}
 use Rattle.bench.specs.declared.Outcome.the-variants.{Taken}
-use Rattle.bench.specs.Step.{Step, tick}
+use Rattle.bench.specs.Step.{Step, later, tick}
 use Rattle.bench.specs.History.{ticks}
 use Rattle.bench.specs.Rules.{PermittedCall, TicksByRule}
 
 -- the bench one instant later, with no row served
 unfoldable pub idled : Bench → Step
-idled b =
-    record {
-      outcome = Taken;
-      finishes = [];
-      bench = record {
-        cores = b .cores;
-        table = b .table;
-        now = record { 0 = suc (b .now .0) };
-        states = b .states;
-      };
-    }
+idled b = record { outcome = Taken; finishes = []; bench = later b (b .states) }
 
 -- serves rightly in its first tick and idles later
 unfoldable pub once : Bench → Step

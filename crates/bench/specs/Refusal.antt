@@ -23,14 +23,21 @@ unfoldable pub tooSoon : (now gap : ℕ) → Last → Bool
 tooSoon now gap Never = false
 tooSoon now gap (At at) = ltb (now - at .0) gap
 
+-- whether a release of the row at a place is too soon, and whether its last poll leaves no room for one
+abbrev pub soonAt : Bench → (place : ℕ) → Bool
+soonAt b place = tooSoon (b .now .0) (gap (rowAt b place)) (stateAt b place .last)
+
+abbrev pub fullAt : Bench → (place : ℕ) → Bool
+fullAt b place = ltb 0 (work (stateAt b place))
+
 -- the tests of a release of `demand` at `place`: 29, 20, 23, 22, 21
 unfoldable pub releaseTests : Bench → (place demand : ℕ) → List (Check Refusal)
 releaseTests b place demand =
     checkFor BrokenRecord (broken b)
     ∷ checkFor (NoPlace place) (eqb place 0 || ltb (length (rows b)) place)
     ∷ checkFor (WrongDemand place) (eqb demand 0 || ltb (cost (rowAt b place)) demand)
-    ∷ checkFor (TooSoon place) (tooSoon (b .now .0) (gap (rowAt b place)) (stateAt b place .last))
-    ∷ checkFor (Unfinished place) (ltb 0 (work (stateAt b place)))
+    ∷ checkFor (TooSoon place) (soonAt b place)
+    ∷ checkFor (Unfinished place) (fullAt b place)
     ∷ []
 
 -- the tests of a tick: 29, 24

@@ -79,15 +79,14 @@ release b place demand =
 unfoldable pub served : Bench → List ℕ
 served b = units (b .cores) (take (length (rows b)) (b .states))
 
+-- the bench an instant later, with these states of its rows
+abbrev pub later : Bench → List RowState → Bench
+later b states =
+    record { cores = b .cores; table = b .table; now = record { 0 = suc (b .now .0) }; states = states }
+
 -- the bench after a tick: rows have got their units, and the instant is one later
 unfoldable pub moved : Bench → Bench
-moved b =
-    record {
-      cores = b .cores;
-      table = b .table;
-      now = record { 0 = suc (b .now .0) };
-      states = worked (served b) (b .states);
-    }
+moved b = later b (worked (served b) (b .states))
 
 -- a tick that is not refused: the polls that end in it are listed with the instant after growing
 unfoldable pub taken : Bench → Step
