@@ -3,12 +3,13 @@ use Prim.Native.Nat.{ℕ, zero, suc}
 use mathlib.Core.Path.{_≡_, refl}
 use mathlib.Core.List.{List}
 use Rattle.quantities.specs.Lengths.{numbers, inArray}
+use Rattle.quantities.specs.declared.Micros.{Micros}
 use Rattle.quantities.proofs.Lengths.{getD-array}
-use Rattle.sheet.specs.declared.Entry.{Entry}
+use Rattle.records.specs.declared.RowFields.{RowFields}
 use Rattle.lines.specs.Lines.{rowLines}
 
-pub lines-in-array : (entries : List Entry) (bounds : List ℕ) (k : ℕ)
-    → rowLines entries (numbers (inArray bounds)) k ≡ rowLines entries bounds k
+pub lines-in-array : (tick : Micros) (entries : List RowFields) (bounds : List ℕ) (k : ℕ)
+    → rowLines tick entries (numbers (inArray bounds)) k ≡ rowLines tick entries bounds k
 unfolding rowLines
-lines-in-array entries bounds zero = refl
-lines-in-array entries bounds (suc k) = rw (lines-in-array entries bounds k, getD-array bounds k) refl
+lines-in-array tick entries bounds zero = refl
+lines-in-array tick entries bounds (suc k) = rw (lines-in-array tick entries bounds k, getD-array bounds k) refl

@@ -4,8 +4,9 @@ use Prim.Native.String.{String}
 use mathlib.Core.List.{List, [], _++_}
 use lib.ListN.{getD}
 use Rattle.quantities.specs.Row.{deadline}
-use Rattle.sheet.specs.Entries.{noEntry}
-use Rattle.sheet.specs.declared.Entry.{Entry}
+use Rattle.quantities.specs.declared.Micros.{Micros}
+use Rattle.records.specs.declared.RowFields.{RowFields}
+use Rattle.sheet.specs.Entries.{rowIn, noEntry}
 use Rattle.lines.specs.Words.{ascii}
 use Rattle.lines.specs.Decimal.{decimal}
 
@@ -21,11 +22,12 @@ firstLine cores tick rows = worded "cores " cores ++ worded " tick " tick ++ wor
 unfoldable pub rowLine : (place label bound d : ℕ) → List ℕ
 rowLine place label bound d = decimal place ++ worded " " label ++ worded " " bound ++ worded " " d ++ ascii "\n"
 
--- the lines of the first so many rows, with their bounds; the row with index k stands at place k + 1
-unfoldable pub rowLines : List Entry → List ℕ → ℕ → List ℕ
-rowLines entries bounds zero = []
-rowLines entries bounds (suc k) = rowLines entries bounds k
-    ++ rowLine (suc k) (getD entries k noEntry .label) (getD bounds k 0) (deadline (getD entries k noEntry .row))
+-- the lines of the first so many rows, in ticks of a length, with their bounds; the row with index k stands at place
+-- k + 1
+unfoldable pub rowLines : Micros → List RowFields → List ℕ → ℕ → List ℕ
+rowLines tick entries bounds zero = []
+rowLines tick entries bounds (suc k) = rowLines tick entries bounds k
+    ++ rowLine (suc k) (getD entries k noEntry .label) (getD bounds k 0) (deadline (rowIn tick (getD entries k noEntry)))
 
 -- every row has its bound
 unfoldable pub shownLine : List ℕ

@@ -87,16 +87,16 @@ pub fn put_row_lines(
     count: usize,
 ) -> usize
     requires { ⌜ (count ≤ rowCapacity) × (at + count * lineRoom ≤ length (now out)) ⌝ }
-    ensures { λ r. ⌜ Puts (now (out .entry)) at (rowLines (sheet .entries) (numbers bounds) count) (now (out .exit)) r ⌝ }
-    ensures { λ r. ⌜ length (rowLines (sheet .entries) (numbers bounds) count) ≤ count * lineRoom ⌝ }
+    ensures { λ r. ⌜ Puts (now (out .entry)) at (rowLines (sheet .tick) (sheet .entries) (numbers bounds) count) (now (out .exit)) r ⌝ }
+    ensures { λ r. ⌜ length (rowLines (sheet .tick) (sheet .entries) (numbers bounds) count) ≤ count * lineRoom ⌝ }
 {
     let mut next = at;
     let mut i: usize = 0;
     while i < count {
         let entry = sheet.entries[i];
         let bound = bounds[i];
-        let deadline = entry.row.d;
-        next = put_row_line(out, next, i + 1, entry.label, bound, deadline);
+        let row = Sheet::row_in(entry, sheet.tick);
+        next = put_row_line(out, next, i + 1, entry.label, bound, row.d);
         i += 1;
     }
     next

@@ -4,7 +4,7 @@ use native.Mathlib.Omega.{arith}
 use native.Mathlib.Decide.{decLe}
 use mathlib.Core.Path.{_≡_, refl, sym, ap, subst, _∙_}
 use mathlib.Core.Bool.{Bool}
-use mathlib.Core.List.{List, [], _++_}
+use mathlib.Core.List.{List, [], _∷_, _++_}
 use mathlib.Core.Option.{none}
 use lib.ListN.{length, drop}
 use Rattle.laws.specs.Checks.{firstFailing}
@@ -19,7 +19,7 @@ use Rattle.windows.specs.Answer.{Judged, judged, judgedInto, answerPaper}
 use Rattle.windows.proofs.Into.{into-refused, into-room}
 use Rattle.records.specs.declared.Record.{Record}
 use Rattle.records.specs.declared.Record.the-variants.{Missing, Unknown, Cut, Board, Row as RowOf, End}
-use Rattle.records.specs.Records.{recordLength, recordOn, kindOf, sizeOf, isEnd}
+use Rattle.records.specs.Records.{recordLength, recordOn, sizeOn, isEnd}
 use Rattle.sheet.specs.Reader.{readOf}
 use Rattle.sheet.specs.declared.Outcome.{Outcome}
 use Rattle.text.specs.Printed.{Printed}
@@ -138,14 +138,10 @@ record-answer part r is =
       end = λ count rest fits e. is ∙ ap recordOn e ∙ records-come-back .end count rest fits .1;
     }
 
-pub size-answer : (found : Record) (r : ℕ) → r ≡ sizeOf found → r ≡ sizeIs found
-unfolding recordLength kindOf
-size-answer Missing r is = is
-size-answer Unknown r is = is
-size-answer (Cut kind) r is = is
-size-answer (Board cores tick) r is = is
-size-answer (RowOf fields) r is = is
-size-answer (End count) r is = is
+pub size-answer : (part : List ℕ) (r : ℕ) → r ≡ sizeOn part → r ≡ sizeIs part
+unfolding recordLength
+size-answer [] r is = is
+size-answer (kind ∷ rest) r is = is
 
 end-answer-of : (found : Record) → EndAnswer found (isEnd found)
 unfolding isEnd

@@ -1,36 +1,41 @@
 -- The sheet's own functions answer as specs/Promised.antt promises.
 use Prim.Native.Nat.{ℕ, _+_, _<_}
+use native.Mathlib.Nat.{div-zero}
 use native.Mathlib.Omega.{arith}
 use native.Mathlib.Decide.{ℕ-discrete as decEq}
 use mathlib.Core.Path.{_≡_, refl, sym, ap, _∙_}
 use mathlib.Core.Logic.{inl, inr}
 use mathlib.Core.Bool.{Bool, true, false}
-use mathlib.Core.List.{List, [], _∷_}
-use lib.ListN.{length, drop, length-take}
+use mathlib.Core.List.{List, [], _∷_, map}
+use lib.ListN.{length, drop, replicate, length-take}
 use lib.Seq.{take-at, drop-at}
 use borrow.Author.Tests.{lt-ltb, le-ltb}
 use Rattle.laws.specs.Member.{Member}
 use Rattle.quantities.specs.Table.{rowsOf, emptyTable}
+use Rattle.quantities.specs.Row.{rowOf}
 use Rattle.quantities.specs.declared.Micros.{Micros}
+use Rattle.quantities.specs.declared.Row.{Row}
 use Rattle.quantities.specs.declared.Table.{Table}
-use Rattle.sheet.specs.declared.Entry.{Entry}
+use Rattle.records.specs.declared.RowFields.{RowFields}
 use Rattle.sheet.specs.declared.Sheet.{Sheet}
-use Rattle.sheet.specs.Entries.{boardSheet, entriesOf, used, inserted, withEntry, tableOf}
+use Rattle.sheet.specs.Entries.{ticksOf, rowIn, boardSheet, entriesOf, used, inserted, withEntry, tableIn, tableOf}
 use Rattle.sheet.proofs.Entries.{used-here, used-below}
 use Rattle.sheet.proofs.Order.{inserted-permuted, inserted-rising, length-inserted}
 use Rattle.sheet.proofs.Tables.{table-with-rows}
 use Rattle.promises.proofs.Sheets.{rising-by-index, index-rising}
-use Rattle.promised.specs.Promised.{entriesIn, NoEntries, Uses, UsedAnswer, OneEntryMore, EntryAnswer, RowsOfEntries}
+use Rattle.promises.proofs.SheetsRows.{rows-in-ticks}
+use Rattle.promised.specs.Promised.{entriesIn, NoEntries, Uses, UsedAnswer, OneEntryMore, EntryAnswer}
+use Rattle.promised.specs.Promised.{RowsOfEntries, RowAnswer}
 
 pub no-entries : (cores : ℕ) (tick : Micros) (r : Sheet) → r ≡ boardSheet cores tick → NoEntries cores tick r
 unfolding boardSheet
 no-entries cores tick r is = is
 
 -- a priority is used where an entry has it
-abbrev Has : (priority : ℕ) → List Entry → Type 0
-Has priority entries = (one : Entry) × Member one entries × (one .priority ≡ priority)
+abbrev Has : (priority : ℕ) → List RowFields → Type 0
+Has priority entries = (one : RowFields) × Member one entries × (one .priority ≡ priority)
 
-used-by : (priority : ℕ) (entries : List Entry) → used priority entries ≡ true → Has priority entries
+used-by : (priority : ℕ) (entries : List RowFields) → used priority entries ≡ true → Has priority entries
 unfolding used
 used-by priority [] e = let z : _≡_ {A = ℕ} 0 1 = cc in absurd (omega arith)
 used-by priority (entry ∷ entries) e = go (decEq (entry .priority) priority) (used-by priority entries)
@@ -42,7 +47,7 @@ used-by priority (entry ∷ entries) e = go (decEq (entry .priority) priority) (
         let (one, stands, has) = below (sym (used-below priority entry entries other) ∙ e) in
         (one, inr stands, has)
 
-by-used : (priority : ℕ) (entries : List Entry) (one : Entry) → Member one entries → one .priority ≡ priority
+by-used : (priority : ℕ) (entries : List RowFields) (one : RowFields) → Member one entries → one .priority ≡ priority
     → used priority entries ≡ true
 by-used priority [] one stands has = absurd stands
 by-used priority (entry ∷ entries) one stands has =
@@ -51,7 +56,7 @@ by-used priority (entry ∷ entries) one stands has =
     go : Dec (entry .priority ≡ priority) → Member one (entry ∷ entries)
         → (Member one entries → used priority entries ≡ true) → used priority (entry ∷ entries) ≡ true
     go (yes same) stands below = used-here priority entry entries same
-    go (no other) (inl is) below = absurd (other (ap (λ (e : Entry). e .priority) (sym is) ∙ has))
+    go (no other) (inl is) below = absurd (other (ap (λ (e : RowFields). e .priority) (sym is) ∙ has))
     go (no other) (inr rest) below = used-below priority entry entries other ∙ below rest
 
 pub used-answer : (sheet : Sheet) (priority : ℕ) (r : Bool) → r ≡ used priority (entriesOf sheet)
@@ -75,11 +80,11 @@ unused priority sheet none = go (used priority (entriesIn sheet)) refl
         absurd (none (record { one = one; stands = stands; has = has }))
 
 -- the entries that a sheet with one more has
-module _ (sheet : Sheet) (new : Entry) (many : length (sheet .entries) ≡ 32) (room : sheet .count < 32) where
-  abbrev more : List Entry
+module _ (sheet : Sheet) (new : RowFields) (many : length (sheet .entries) ≡ 32) (room : sheet .count < 32) where
+  abbrev more : List RowFields
   more = inserted new (entriesIn sheet)
 
-  abbrev behind : List Entry
+  abbrev behind : List RowFields
   behind = drop (sheet .count + 1) (sheet .entries)
 
   as-many : length more ≡ sheet .count + 1
@@ -104,7 +109,7 @@ module _ (sheet : Sheet) (new : Entry) (many : length (sheet .entries) ≡ 32) (
         board = (refl, refl);
       })
 
-pub entry-answer : (sheet : Sheet) (new : Entry) (r : Sheet) → length (sheet .entries) ≡ 32
+pub entry-answer : (sheet : Sheet) (new : RowFields) (r : Sheet) → length (sheet .entries) ≡ 32
     → r ≡ withEntry sheet new → EntryAnswer sheet new r
 unfolding withEntry
 entry-answer sheet new r many is =
@@ -113,10 +118,33 @@ entry-answer sheet new r many is =
       full = λ full. is ∙ rw (le-ltb (sheet .count) 32 full) refl;
     }
 
-pub rows-of-entries : (sheet : Sheet) (r : Table) → length (sheet .entries) ≡ 32 → r ≡ tableOf sheet
-    → RowsOfEntries sheet r
-unfolding tableOf emptyTable rowsOf entriesOf
-rows-of-entries sheet r many is =
-    rw is
-    (table-with-rows emptyTable (entriesIn sheet) refl
-    (omega (arith, length-take (sheet .count) (sheet .entries))))
+-- ticks of no length: each time is 0
+row-in-none : (entry : RowFields) → rowIn (record { 0 = 0 }) entry ≡ rowOf 0 0 0
+unfolding rowIn ticksOf
+row-in-none entry = rw (div-zero (entry .c .0), div-zero (entry .d .0), div-zero (entry .t .0)) refl
+
+rows-in-none : (entries : List RowFields) → map (rowIn (record { 0 = 0 })) entries ≡ replicate (length entries) (rowOf 0 0 0)
+rows-in-none [] = refl
+rows-in-none (entry ∷ entries) = rw (row-in-none entry, rows-in-none entries) refl
+
+pub row-answer : (fields : RowFields) (tick : Micros) (r : Row) → r ≡ rowIn tick fields → RowAnswer fields tick r
+row-answer fields tick r is =
+    record {
+      in-ticks = λ some. rw is (rows-in-ticks (tick .0) (fields ∷ []) some .0);
+      no-tick = λ none. is ∙ rw none (row-in-none fields);
+    }
+
+pub table-own : (sheet : Sheet) (r : Table) → r ≡ tableOf sheet → r ≡ tableIn sheet (sheet .tick)
+unfolding tableOf
+table-own sheet r is = is
+
+pub rows-of-entries : (sheet : Sheet) (tick : Micros) (r : Table) → length (sheet .entries) ≡ 32
+    → r ≡ tableIn sheet tick → RowsOfEntries sheet tick r
+unfolding tableIn emptyTable rowsOf entriesOf
+rows-of-entries sheet tick r many is =
+    let few = length-take (sheet .count) (sheet .entries) in
+    let rows = table-with-rows tick emptyTable (entriesIn sheet) refl (omega (arith, few)) in
+    record {
+      in-ticks = λ some. rw (is, rows) (rows-in-ticks (tick .0) (entriesIn sheet) some);
+      no-tick = λ none. rw (is, rows, none) (rows-in-none (entriesIn sheet));
+    }

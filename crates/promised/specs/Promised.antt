@@ -14,6 +14,7 @@ use Rattle.quantities.specs.declared.Row.{Row}
 use Rattle.quantities.specs.declared.Table.{Table}
 use Rattle.quantities.specs.declared.Checked.{Checked}
 use Rattle.quantities.specs.declared.Checked.the-variants.{Sound, Faulty}
+use Rattle.quantities.specs.Row.{rowOf}
 use Rattle.quantities.specs.Table.{rowsOf}
 use Rattle.quantities.specs.Paper.{Paper, paper, checkedPaper}
 use Rattle.laws.specs.Checks.{Check, FirstFailing}
@@ -22,7 +23,7 @@ use Rattle.windows.specs.declared.Answer.{Answer}
 use Rattle.windows.specs.declared.Answer.the-variants.{Shown, NotShown, Refused}
 use Rattle.records.specs.declared.Record.{Record}
 use Rattle.records.specs.declared.Record.the-variants.{Missing, Unknown, Cut, Board, Row as RowOf, End}
-use Rattle.sheet.specs.declared.Entry.{Entry}
+use Rattle.records.specs.declared.RowFields.{RowFields}
 use Rattle.sheet.specs.declared.Sheet.{Sheet}
 use Rattle.sheet.specs.declared.Verdict.the-variants.{Sound as SoundSheet}
 use Rattle.sheet.specs.declared.Outcome.{Outcome}
@@ -41,7 +42,8 @@ use Rattle.bench.specs.Refusal.{paperOf}
 use Rattle.replay.specs.declared.Replayed.{Replayed}
 use Rattle.replay.specs.declared.Replayed.the-variants.{NotOpened, NoRoom}
 use Rattle.replay.specs.Replay.{requestsIn}
-use Rattle.promises.specs.Sheets.{blankEntry, RisingPriority, WholeWith, FirstFault, SheetRead, TurnedAway}
+use Rattle.promises.specs.Sheets.{blankEntry, RisingPriority, RowInTicks, RowsInTicks, WholeWith, FirstFault}
+use Rattle.promises.specs.Sheets.{SheetRead, TurnedAway}
 use Rattle.promises.specs.SheetRecords.{BoardFits, RowFits, boardBytes, rowBytes, endBytes}
 use Rattle.promises.specs.Tool.{refusedText, WholeWay}
 use Rattle.promises.specs.Lists.{listOrder, lentOrder, faultAt, ListInRange}
@@ -96,7 +98,7 @@ pub record OneRowMore (table : Table) (row : Row) (r : Table) : Type 0 where
   pub keeps : 32 ≤ table .count → r .rows ≡ table .rows
 
 -- The entries of a sheet: the first ones, as many as it counts.
-abbrev pub entriesIn : Sheet → List Entry
+abbrev pub entriesIn : Sheet → List RowFields
 entriesIn sheet = take (sheet .count) (sheet .entries)
 
 -- `Sheet::of_board`: a board with no row yet.
@@ -105,7 +107,7 @@ NoEntries cores tick r = r ≡ record { cores = cores; tick = tick; count = 0; e
 
 -- `Sheet::is_used`: whether one of the entries has this priority.
 pub record Uses (sheet : Sheet) (priority : ℕ) : Type 0 where
-  pub one : Entry
+  pub one : RowFields
   pub stands : Member one (entriesIn sheet)
   pub has : one .priority ≡ priority
 
@@ -114,20 +116,27 @@ UsedAnswer sheet priority r = (r ≡ true) ↔ Uses sheet priority
 
 -- `Sheet::with_entry`: one entry more; where they stood in rising priority and none has the new one's, they
 -- do again. A full sheet stays as it is.
-pub record OneEntryMore (sheet : Sheet) (new : Entry) (r : Sheet) : Type 0 where
+pub record OneEntryMore (sheet : Sheet) (new : RowFields) (r : Sheet) : Type 0 where
   pub count : r .count ≡ sheet .count + 1
   pub together : Permuted (new ∷ entriesIn sheet) (entriesIn r)
   pub rising : RisingPriority (entriesIn sheet) → (Uses sheet (new .priority) → ⊥) → RisingPriority (entriesIn r)
   pub later : drop (sheet .count + 1) (r .entries) ≡ drop (sheet .count + 1) (sheet .entries)
   pub board : (r .cores ≡ sheet .cores) × (r .tick ≡ sheet .tick)
 
-pub record EntryAnswer (sheet : Sheet) (new : Entry) (r : Sheet) : Type 0 where
+pub record EntryAnswer (sheet : Sheet) (new : RowFields) (r : Sheet) : Type 0 where
   pub room : sheet .count < 32 → OneEntryMore sheet new r
   pub full : 32 ≤ sheet .count → r ≡ sheet
 
--- `Sheet::table`: the rows of the first entries, as many as the sheet counts, in their order.
-abbrev pub RowsOfEntries : Sheet → (r : Table) → Type 0
-RowsOfEntries sheet r = rowsOf r ≡ map (λ (entry : Entry). entry .row) (entriesIn sheet)
+-- `Sheet::table_in`: the rows of the first entries, as many as the sheet counts, in their order and in ticks of a
+-- length; a length of 0 gives each time as 0. `Sheet::table`: in the sheet's own ticks.
+pub record RowsOfEntries (sheet : Sheet) (tick : Micros) (r : Table) : Type 0 where
+  pub in-ticks : 0 < tick .0 → RowsInTicks (tick .0) (entriesIn sheet) (rowsOf r)
+  pub no-tick : tick .0 ≡ 0 → rowsOf r ≡ replicate (length (entriesIn sheet)) (rowOf 0 0 0)
+
+-- `Sheet::row_in`: one row in ticks of a length.
+pub record RowAnswer (fields : RowFields) (tick : Micros) (r : Row) : Type 0 where
+  pub in-ticks : 0 < tick .0 → RowInTicks (tick .0) fields r
+  pub no-tick : tick .0 ≡ 0 → r ≡ rowOf 0 0 0
 
 -- `records::record_on`: what stands on a part of a sheet that begins where a record should.
 pub record RecordAnswer (part : List ℕ) (r : Record) : Type 0 where
@@ -152,14 +161,10 @@ pub record RecordAnswer (part : List ℕ) (r : Record) : Type 0 where
       })
   pub end : (count : ℕ) (rest : List ℕ) → count < 256 → part ≡ endBytes count ++ rest → r ≡ End count
 
--- `records::size`: the bytes that a record takes, also where it is cut short; 0 where there is no kind.
-abbrev pub sizeIs : Record → ℕ
-sizeIs Missing = 0
-sizeIs Unknown = 0
-sizeIs (Cut kind) = cond (eqb kind 1) 4 (cond (eqb kind 2) 17 (cond (eqb kind 3) 2 0))
-sizeIs (Board cores tick) = 4
-sizeIs (RowOf fields) = 17
-sizeIs (End count) = 2
+-- `records::size_on`: the bytes that the record on a part takes, also where it is cut short; 0 where there is no kind.
+abbrev pub sizeIs : List ℕ → ℕ
+sizeIs [] = 0
+sizeIs (kind ∷ rest) = cond (eqb kind 1) 4 (cond (eqb kind 2) 17 (cond (eqb kind 3) 2 0))
 
 -- `records::is_end`.
 abbrev pub EndAnswer : Record → Bool → Type 0

@@ -14,8 +14,8 @@ use quantities::Row;
 use quantities::Table;
 use quantities::Ticks;
 use records::Record;
+use records::RowFields;
 use replay::Replayed;
-use sheet::Entry;
 use sheet::Outcome;
 use sheet::Sheet;
 ghost use mathlib.Core.Path.{_≡_};
@@ -24,7 +24,7 @@ ghost use Rattle.promised.specs.Promised.{SheetAnswer, TextAnswer, Analy
 ghost use Rattle.promised.specs.Promised.{NoRows, OneRowMore, OpeningAnswer, ReleaseAnswer};
 ghost use Rattle.promised.specs.Promised.{BrokenAnswer, TickAnswer, RequestAnswer, OutcomeBy};
 ghost use Rattle.promised.specs.Promised.{ReplayAnswer, AnswerForC, ToldAnswer};
-ghost use Rattle.promised.specs.Promised.{RecordAnswer, sizeIs, EndAnswer, RowsOfEntries};
+ghost use Rattle.promised.specs.Promised.{RecordAnswer, sizeIs, EndAnswer, RowsOfEntries, RowAnswer};
 ghost use Rattle.promised.specs.Promised.{NoEntries, UsedAnswer, EntryAnswer};
 ghost use Rattle.promises.specs.Windows.{interferes};
 ghost use Rattle.promises.specs.Calls.{releaseOrder, tickOrder};
@@ -126,10 +126,10 @@ pub fn record_at(part: &[u8]) -> Record
     records::record_on(part)
 }
 
-pub fn record_size(found: Record) -> usize
-    ensures { λ r. ⌜ r ≡ sizeIs found ⌝ }
+pub fn record_size(part: &[u8]) -> usize
+    ensures { λ r. ⌜ r ≡ sizeIs (now (part .entry)) ⌝ }
 {
-    records::size(found)
+    records::size_on(part)
 }
 
 pub fn is_end(found: Record) -> bool
@@ -150,16 +150,28 @@ pub fn is_used(sheet: Sheet, priority: u32) -> bool
     sheet.is_used(priority)
 }
 
-pub fn add_entry(sheet: Sheet, new: Entry) -> Sheet
+pub fn add_entry(sheet: Sheet, new: RowFields) -> Sheet
     ensures { λ r. ⌜ EntryAnswer sheet new r ⌝ }
 {
     sheet.with_entry(new)
 }
 
 pub fn table_of(sheet: Sheet) -> Table
-    ensures { λ r. ⌜ RowsOfEntries sheet r ⌝ }
+    ensures { λ r. ⌜ RowsOfEntries sheet (sheet .tick) r ⌝ }
 {
     sheet.table()
+}
+
+pub fn table_in_ticks(sheet: Sheet, tick: Micros) -> Table
+    ensures { λ r. ⌜ RowsOfEntries sheet tick r ⌝ }
+{
+    sheet.table_in(tick)
+}
+
+pub fn row_in_ticks(fields: RowFields, tick: Micros) -> Row
+    ensures { λ r. ⌜ RowAnswer fields tick r ⌝ }
+{
+    Sheet::row_in(fields, tick)
 }
 
 pub fn interfere(own: Ticks, window: Ticks, work: Ticks) -> Ticks

@@ -16,11 +16,11 @@ use Rattle.windows.specs.Least.{firstOf, least}
 use Rattle.windows.specs.Bound.{window, boundsBelow}
 use Rattle.windows.specs.Answer.{Judged, verdict, judgedAfter, judged}
 use Rattle.records.specs.Bytes.{numberAfter, field}
-use Rattle.records.specs.Records.{recordLength, rowFields, wholeRecord, recordOn, kindOf, isEnd}
-use Rattle.sheet.specs.Entries.{ticksOf, entryOf, boardSheet, entriesOf, used, inserted, withEntry, tableWith, tableOf}
+use Rattle.records.specs.Records.{recordLength, rowFields, wholeRecord, recordOn, isRowKind, isEnd}
+use Rattle.sheet.specs.Entries.{ticksOf, rowIn, boardSheet, entriesOf, used, inserted, withEntry, tableWith, tableIn, tableOf}
 use Rattle.sheet.specs.Checks.{misplaced, boardChecks, endChecks, recordChecks, verdictOf}
 use Rattle.sheet.specs.Checks.{rowChecks as recordRowChecks}
-use Rattle.sheet.specs.Reader.{noSheet, newReading, afterRecord, refused, whole, readFrom, readOf}
+use Rattle.sheet.specs.Reader.{noSheet, newReading, afterRecord, refused, whole, unread, ended, firstFrom, firstSheetOf, closed, readOf}
 use Rattle.lines.specs.Words.{ascii}
 use Rattle.lines.specs.Decimal.{digitsIn, decimal}
 use Rattle.lines.specs.Lines.{firstLine, rowLine, rowLines, shownLine}
@@ -104,10 +104,10 @@ whole-falling =
 crossed : (order : List Row → List Row) → AsTheRecordsStand order
     → judgesInOrder order sheetOfDocument
     ≡ ascii "cores 2 tick 100 rows 3\n1 101 2 5\n2 102 2 8\n3 110 5 4\nall shown\n"
-unfolding judgedText boundLines firstLine rowLine rowLines shownLine decimal digitsIn readOf readFrom newReading
-    noSheet boardSheet recordOn recordLength kindOf isEnd wholeRecord rowFields field numberAfter recordChecks misplaced
-    boardChecks recordRowChecks endChecks verdictOf afterRecord withEntry inserted entriesOf entryOf ticksOf used whole
-    refused tableOf tableWith withRow emptyTable rowsOf rowChecks rowsChecks listChecks firstFailing faultFrom listFault
+unfolding judgedText boundLines firstLine rowLine rowLines shownLine decimal digitsIn readOf closed firstSheetOf firstFrom unread ended newReading
+    noSheet boardSheet recordOn recordLength isRowKind isEnd wholeRecord rowFields field numberAfter recordChecks misplaced
+    boardChecks recordRowChecks endChecks verdictOf afterRecord withEntry inserted entriesOf rowIn ticksOf used whole
+    refused tableOf tableIn tableWith withRow emptyTable rowsOf rowChecks rowsChecks listChecks firstFailing faultFrom listFault
     plain carry limit interference most passes firstOf least window boundsBelow verdict judgedAfter judged
 crossed order stands = rw (stands) refl
 

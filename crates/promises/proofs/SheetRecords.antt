@@ -15,8 +15,9 @@ use Rattle.laws.proofs.Checks.{failing-behind}
 use Rattle.quantities.specs.Paper.{Paper, paper}
 use Rattle.quantities.specs.Checks.{check}
 use Rattle.records.specs.Bytes.{numberAfter, field}
-use Rattle.records.specs.Records.{recordLength, rowFields, recordOn, kindOf, isEnd}
+use Rattle.records.specs.Records.{recordLength, isRowKind, rowFields, recordOn, isEnd}
 use Rattle.records.specs.declared.Record.the-variants.{Board, Row}
+use Rattle.records.proofs.Records.{length-row}
 use Rattle.records.proofs.Parts.{on-board, on-row, on-end}
 use Rattle.promises.specs.Sheets.{
   byte,
@@ -104,7 +105,7 @@ row-in-bytes label priority c d t fits =
     (omega arith, two-bytes label (inTwo priority ++ rest) (fits .label-fits) (two-bytes priority rest (fits .priority-fits) times))
 
 pub records-come-back : RecordsComeBack
-unfolding field numberAfter
+unfolding field numberAfter isRowKind
 records-come-back =
     record {
       board =
@@ -115,7 +116,7 @@ records-come-back =
       row =
           λ label priority c d t rest fits. (
             row-in-bytes label priority c d t fits,
-            on-row (rowBytes label priority c d t ++ rest) refl (omega arith) ∙ ap Row (row-back label priority c d t rest),
+            on-row (rowBytes label priority c d t ++ rest) refl (omega (arith, length-row)) ∙ ap Row (row-back label priority c d t rest),
           );
       end =
           λ count rest fits. (
@@ -226,7 +227,7 @@ thirty-two-taken =
     )
 
 pub parts-told : PartsTold
-unfolding recordOn recordLength kindOf isEnd
+unfolding recordOn recordLength isEnd
 parts-told =
     record {
       no-byte = refl;
@@ -235,11 +236,12 @@ parts-told =
       cut-board = λ rest short. rw (lt-ltb (suc (length rest)) 4 (omega (arith, short))) refl;
       cut-row = λ rest short. rw (lt-ltb (suc (length rest)) 17 (omega (arith, short))) refl;
       cut-end = refl;
-      sizes-of-cut = (refl, refl, refl);
-      size-of-board = λ cores tick. refl;
-      size-of-row = λ fields. refl;
-      size-of-end = λ count. refl;
-      no-size = (refl, refl);
+      size-of-board = λ rest. refl;
+      size-of-row = λ rest. refl;
+      size-of-end = λ rest. refl;
+      no-size = refl;
+      size-of-unknown = λ kind rest one two three.
+          rw (ne-eqb kind 1 one, ne-eqb kind 2 two, ne-eqb kind 3 three) refl;
       the-end = λ count. refl;
       no-end = λ fields cores tick kind. (refl, refl, refl, refl, refl);
     }

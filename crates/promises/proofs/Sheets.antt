@@ -1,8 +1,7 @@
 -- The order sheet in bytes holds of the reader: taken or turned away, and what is read.
 use Prim.Native.Nat.{ℕ, zero, suc, _+_, _-_, _≤_, _<_}
 use native.Mathlib.Omega.{arith}
-use native.Mathlib.Decide.{ℕ-discrete, decLe}
-use native.Mathlib.Nat.{mul-le-mul-right}
+use native.Mathlib.Decide.{ℕ-discrete}
 use mathlib.Core.Path.{_≡_, refl, sym, ap, subst, _∙_}
 use mathlib.Core.Logic.{_⊎_, inl, inr, ⊎-elim}
 use mathlib.Core.Bool.{Bool, true, false, _||_}
@@ -22,13 +21,12 @@ use Rattle.quantities.specs.Checks.{check}
 use Rattle.quantities.specs.Table.{rowsOf, emptyTable, withRow}
 use Rattle.quantities.specs.declared.Table.{Table}
 use Rattle.laws.proofs.Checks.{none-fails, first-failing, failing-behind}
-use Rattle.quantities.specs.Row.{rowOf}
 use Rattle.quantities.specs.declared.Micros.{Micros}
 use Rattle.records.specs.Records.{isEnd}
 use Rattle.records.proofs.Parts.{on-end}
-use Rattle.sheet.specs.Entries.{noEntry, boardSheet, entriesOf, tableWith, tableOf, sheetOf, Rising}
+use Rattle.sheet.specs.Entries.{rowIn, noEntry, boardSheet, entriesOf, tableWith, tableIn, tableOf, sheetOf, Rising}
 use Rattle.sheet.specs.Reader.{noSheet, newReading, refused, whole, readOf, paperOf}
-use Rattle.sheet.specs.declared.Entry.{Entry}
+use Rattle.records.specs.declared.RowFields.{RowFields}
 use Rattle.sheet.specs.declared.Sheet.{Sheet}
 use Rattle.sheet.specs.declared.Outcome.{Outcome}
 use Rattle.sheet.proofs.Checks.{sound-not-refused}
@@ -60,7 +58,6 @@ use Rattle.promises.specs.Sheets.{
   RefusedSheetHasFault,
   SheetEither,
   NoByteAtTheEnd,
-  InTicks,
   RowRead,
   RisingPriority,
   SheetRead,
@@ -68,11 +65,11 @@ use Rattle.promises.specs.Sheets.{
   OneReading,
 }
 use Rattle.promises.proofs.SheetsChecks.{kind-of-part, board-verdict}
-use Rattle.promises.proofs.SheetsRows.{Past, readingOf, past, past-count, past-verdict, few-rows}
+use Rattle.promises.proofs.SheetsRows.{Past, readingOf, past, past-count, past-verdict, few-rows, rows-in-ticks}
 
 -- A refused sheet, in the words of the page.
 away : (number place : ℕ) (outcome : Outcome) → refused number place ≡ outcome → TurnedAway number place outcome
-unfolding refused noSheet boardSheet paperOf entriesOf tableOf tableWith emptyTable rowsOf
+unfolding refused noSheet boardSheet paperOf entriesOf tableOf tableIn tableWith emptyTable rowsOf
 away number place outcome e =
     rw (← e) (record { answers = refl; on-paper = refl; no-sheet = refl; no-entries = refl; no-rows = refl })
 
@@ -195,19 +192,19 @@ no-byte-at-the-end =
     }
 
 -- Entries that rise, in the words of the page and in the reader's own.
-pub rising-by-index : (entries : List Entry) → Rising entries → RisingPriority entries
+pub rising-by-index : (entries : List RowFields) → Rising entries → RisingPriority entries
 rising-by-index [] r i j h l = absurd (omega arith)
 rising-by-index (x ∷ xs) r i zero h l = absurd (omega arith)
 rising-by-index (x ∷ xs) r zero (suc j) h l =
     each-at (λ y. x .priority < y .priority) xs j noEntry (omega arith) (r .0)
 rising-by-index (x ∷ xs) r (suc i) (suc j) h l = rising-by-index xs (r .1) i j (omega arith) (omega arith)
 
-each-by-index : (P : Entry → Type 0) (entries : List Entry)
+each-by-index : (P : RowFields → Type 0) (entries : List RowFields)
     → ((j : ℕ) → j < length entries → P (getD entries j noEntry)) → Each P entries
 each-by-index P [] f = tt
 each-by-index P (x ∷ xs) f = (f zero (omega arith), each-by-index P xs (λ j h. f (suc j) (omega arith)))
 
-pub index-rising : (entries : List Entry) → RisingPriority entries → Rising entries
+pub index-rising : (entries : List RowFields) → RisingPriority entries → Rising entries
 index-rising [] r = tt
 index-rising (x ∷ xs) r = (
   each-by-index (λ y. x .priority < y .priority) xs (λ j h. r zero (suc j) (omega arith) (omega arith)),
@@ -219,23 +216,23 @@ record Filled (table : Table) (n : ℕ) : Type 0 where
   count : table .count ≡ n
   full : length (table .rows) ≡ 32
 
-table-with-filled : (table : Table) (n : ℕ) (entries : List Entry) → Filled table n → n + length entries ≤ 32
-    → Filled (tableWith table entries) (n + length entries)
+table-with-filled : (tick : Micros) (table : Table) (n : ℕ) (entries : List RowFields) → Filled table n → n + length entries ≤ 32
+    → Filled (tableWith tick table entries) (n + length entries)
 unfolding tableWith
-table-with-filled table n [] filled h = record { count = omega (arith, filled .count); full = filled .full }
-table-with-filled table n (entry ∷ entries) filled h =
-    let is = with-row-fits table (entry .row) (omega (arith, filled .count)) in
-    let more : Filled (withRow table (entry .row)) (n + 1) =
-    rw is (record { count = omega (arith, filled .count); full = length-set (table .rows) (table .count) (entry .row) ∙ filled .full }) in
-    let all = table-with-filled (withRow table (entry .row)) (n + 1) entries more (omega arith) in
+table-with-filled tick table n [] filled h = record { count = omega (arith, filled .count); full = filled .full }
+table-with-filled tick table n (entry ∷ entries) filled h =
+    let is = with-row-fits table (rowIn tick entry) (omega (arith, filled .count)) in
+    let more : Filled (withRow table (rowIn tick entry)) (n + 1) =
+    rw is (record { count = omega (arith, filled .count); full = length-set (table .rows) (table .count) (rowIn tick entry) ∙ filled .full }) in
+    let all = table-with-filled tick (withRow table (rowIn tick entry)) (n + 1) entries more (omega arith) in
     record { count = omega (arith, all .count); full = all .full }
 
-table-filled : (cores : ℕ) (tick : Micros) (entries : List Entry) → length entries ≤ 32
+table-filled : (cores : ℕ) (tick : Micros) (entries : List RowFields) → length entries ≤ 32
     → Filled (tableOf (sheetOf cores tick entries)) (length entries)
-unfolding tableOf emptyTable
+unfolding tableOf tableIn emptyTable sheetOf
 table-filled cores tick entries few =
     let empty : Filled emptyTable 0 = record { count = refl; full = refl } in
-    let all = table-with-filled emptyTable 0 entries empty (omega arith) in
+    let all = table-with-filled tick emptyTable 0 entries empty (omega arith) in
     rw (entries-of-sheet cores tick entries) (record { count = omega (arith, all .count); full = all .full })
 
 -- What is read of a sheet without fault: the sheet of the entries behind its rows.
@@ -249,6 +246,7 @@ entries-read sheet n passed before =
     let few : length entries ≤ 32 = omega (arith, count, few-rows sheet n passed) in
     let same = entries-of-sheet (coresOf sheet) tick entries in
     let rows = table-rows (coresOf sheet) tick entries few in
+    let in-ticks = rows-in-ticks (tickOf sheet) entries (before .some-tick) in
     let given : Table = tableOf (sheetOf (coresOf sheet) tick entries) in
     let size : Filled given (length entries) = table-filled (coresOf sheet) tick entries few in
     let kept = rows-kept given (omega (arith, size .full, size .count)) in
@@ -267,9 +265,9 @@ entries-read sheet n passed before =
           ap (λ (m : ℕ). drop m (sheetOf (coresOf sheet) tick entries .entries)) (sym count)
           ∙ drop-append-seam entries (replicate (32 - length entries) noEntry)
           ∙ ap (λ (m : ℕ). replicate (32 - m) noEntry) count;
-      table = rw same rows;
+      table = rw (same, rows) in-ticks;
       table-count = size .count ∙ count;
-      table-rows = rw same (first ∙ rows);
+      table-rows = rw (same, first, rows) in-ticks;
       cores = refl;
       tick = refl;
     }
@@ -281,35 +279,19 @@ sheets-read sheet n w =
     let answer = ap (λ (o : Outcome). o .sheet) (answer-whole sheet n w) in
     (sheet-taken sheet n w, subst (SheetRead sheet n) answer (entries-read sheet n (w .rows-pass) before))
 
--- Whole division has one quotient.
-ticks-not-less : (tick time a b : ℕ) → InTicks tick time a → InTicks tick time b → b < a → ⊥
-ticks-not-less tick time a b x y h = omega (arith, x .no-more, y .no-less, mul-le-mul-right tick h)
-
-one-ticks : (tick time a b : ℕ) → InTicks tick time a → InTicks tick time b → a ≡ b
-one-ticks tick time a b x y =
-    elim (decLe a b) [
-      | no more ↦ absurd (ticks-not-less tick time a b x y (omega arith))
-      | yes h ↦
-          elim (decLe b a) [
-            | no more ↦ absurd (ticks-not-less tick time b a y x (omega arith))
-            | yes k ↦ omega arith
-          ]
-    ]
-
--- so a row record is read in one way
-one-entry : (sheet : List ℕ) (place : ℕ) (x y : Entry) → RowRead sheet place x → RowRead sheet place y → x ≡ y
+-- A row record is read in one way.
+one-entry : (sheet : List ℕ) (place : ℕ) (x y : RowFields) → RowRead sheet place x → RowRead sheet place y → x ≡ y
 one-entry sheet place x y a b =
-    let tick = tickOf sheet in
-    let c = one-ticks tick _ (x .row .c .0) (y .row .c .0) (a .c) (b .c) in
-    let d = one-ticks tick _ (x .row .d .0) (y .row .d .0) (a .d) (b .d) in
-    let t = one-ticks tick _ (x .row .t .0) (y .row .t .0) (a .t) (b .t) in
-    same (x .priority) (y .priority) (x .label) (y .label) (x .row .c .0) (y .row .c .0) (x .row .d .0)
-    (y .row .d .0) (x .row .t .0) (y .row .t .0) (a .priority ∙ sym (b .priority)) (a .label ∙ sym (b .label)) c d t
+    same (x .label) (y .label) (x .priority) (y .priority) (x .c .0) (y .c .0) (x .d .0) (y .d .0) (x .t .0) (y .t .0)
+    (a .label ∙ sym (b .label)) (a .priority ∙ sym (b .priority)) (a .c ∙ sym (b .c)) (a .d ∙ sym (b .d)) (a .t ∙ sym (b .t))
   where
-    same : (p p′ l l′ c c′ d d′ t t′ : ℕ) → p ≡ p′ → l ≡ l′ → c ≡ c′ → d ≡ d′ → t ≡ t′
-        → _≡_ {A = Entry} (record { priority = p; label = l; row = rowOf c d t })
-        (record { priority = p′; label = l′; row = rowOf c′ d′ t′ })
-    same p p′ l l′ c c′ d d′ t t′ a b e f g = rw (a, b, e, f, g) refl
+    fields : (label priority c d t : ℕ) → RowFields
+    fields label priority c d t =
+        record { label = label; priority = priority; c = record { 0 = c }; d = record { 0 = d }; t = record { 0 = t } }
+
+    same : (l l′ p p′ c c′ d d′ t t′ : ℕ) → l ≡ l′ → p ≡ p′ → c ≡ c′ → d ≡ d′ → t ≡ t′
+        → fields l p c d t ≡ fields l′ p′ c′ d′ t′
+    same l l′ p p′ c c′ d d′ t t′ a b e f g = rw (a, b, e, f, g) refl
 
 pub one-reading : OneReading
 one-reading sheet n a b read other =
@@ -330,7 +312,7 @@ one-reading sheet n a b read other =
     one-sheet (a .cores) (b .cores) (a .tick .0) (b .tick .0) (a .count) (b .count) (a .entries) (b .entries)
     (read .cores ∙ sym (other .cores)) (read .tick ∙ sym (other .tick)) (read .count ∙ sym (other .count)) entries
   where
-    one-sheet : (cores cores′ tick tick′ count count′ : ℕ) (entries entries′ : List Entry)
+    one-sheet : (cores cores′ tick tick′ count count′ : ℕ) (entries entries′ : List RowFields)
         → cores ≡ cores′ → tick ≡ tick′ → count ≡ count′ → entries ≡ entries′
         → _≡_ {A = Sheet}
         (record { cores = cores; tick = record { 0 = tick }; count = count; entries = entries })

@@ -15,15 +15,15 @@ use Rattle.quantities.specs.Paper.{Paper}
 use Rattle.quantities.specs.Checks.{check}
 use Rattle.quantities.specs.declared.Micros.{Micros}
 use Rattle.records.specs.Bytes.{field}
-use Rattle.records.specs.Records.{recordLength, rowFields, recordOn}
+use Rattle.records.specs.Records.{recordLength, coresOn, tickOn, countOn, rowFields, recordOn}
 use Rattle.records.specs.declared.Record.{Record}
 use Rattle.records.specs.declared.Record.the-variants.{Cut}
 use Rattle.records.proofs.Bytes.{field-one, field-two, field-four}
-use Rattle.records.proofs.Records.{Found, nothing, unknown, cut, board, row, end, found, length-end}
+use Rattle.records.proofs.Records.{Found, nothing, unknown, cut, board, row, end, found, row-kind, row-length}
 use Rattle.sheet.specs.Entries.{used, sheetOf}
 use Rattle.sheet.specs.Checks.{misplaced, boardChecks, rowChecks, endChecks, recordChecks, verdictOf}
 use Rattle.sheet.specs.Reader.{newReading}
-use Rattle.sheet.specs.declared.Entry.{Entry}
+use Rattle.records.specs.declared.RowFields.{RowFields}
 use Rattle.sheet.specs.declared.Reading.{Reading}
 use Rattle.sheet.specs.declared.Verdict.the-variants.{Refused}
 use Rattle.sheet.proofs.Checks.{
@@ -205,16 +205,18 @@ module _ (sheet : List ℕ) where
           complete sheet 0 wrong rest (omega arith) (rw kind refl) (rw kind refl) (rw kind (omega arith))
           ∙ tick-check
           ∙ rw (← tick) refl
-          ∙ sym (board-placed 0 (length sheet) newReading (field 1 1 sheet) (record { 0 = field 2 2 sheet }) refl)
-      go one (row kind long) =
+          ∙ sym (board-placed 0 (length sheet) newReading (coresOn sheet) (tickOn sheet) refl)
+      go one (row is long) =
+          let kind = row-kind (byte sheet 0) is in
+          let size = row-length (byte sheet 0) is in
           out-of-place sheet 0 wrong rest (omega arith) (rw kind refl) (rw kind refl)
           ∙ sym (row-misplaced 0 (length sheet) newReading (rowFields sheet) refl)
       go one (end kind long) =
           out-of-place sheet 0 wrong rest (omega arith) (rw kind refl) (rw kind refl)
-          ∙ sym (end-misplaced 0 (length sheet) newReading (field 1 1 sheet) refl)
+          ∙ sym (end-misplaced 0 (length sheet) newReading (countOn sheet) refl)
 
 -- A later record, after so many rows that have given these entries.
-module _ (sheet : List ℕ) (n cores : ℕ) (tick : Micros) (entries : List Entry)
+module _ (sheet : List ℕ) (n cores : ℕ) (tick : Micros) (entries : List RowFields)
     (within : behind n ≤ length sheet) (counted : length entries ≡ n) (same : (p : ℕ) → used p entries ≡ usedBefore sheet n p) where
   abbrev part : List ℕ
   part = drop (behind n) sheet
@@ -246,14 +248,13 @@ module _ (sheet : List ℕ) (n cores : ℕ) (tick : Micros) (entries : List Entr
       ]
 
   end-order : behind n + 2 ≤ length sheet
-      → endOrder sheet n ≡ endChecks (behind n) (length part) (sheetOf cores tick entries) (field 1 1 part)
+      → endOrder sheet n ≡ endChecks (behind n) (length part) (sheetOf cores tick entries) (countOn part)
   unfolding endChecks
   end-order h =
       rw (
         one-of-part sheet (behind n) 1 (behind n + 1) refl (omega arith),
         count-of-sheet cores tick entries,
         counted,
-        length-end,
         ← after-end,
       )
       refl
@@ -296,9 +297,10 @@ module _ (sheet : List ℕ) (n cores : ℕ) (tick : Micros) (entries : List Entr
           let here : byte sheet (behind n) ≡ 1 = sym first ∙ kind in
           out-of-place sheet (behind n) wrong rest (omega (arith, long-part)) (rw here refl) (rw here refl)
           ∙ sym
-          (board-misplaced (behind n) (length part) reading (field 1 1 part) (record { 0 = field 2 2 part }) refl)
-      go one (row kind long) =
-          let here : byte sheet (behind n) ≡ 2 = sym first ∙ kind in
+          (board-misplaced (behind n) (length part) reading (coresOn part) (tickOn part) refl)
+      go one (row is long) =
+          let here : byte sheet (behind n) ≡ 2 = sym first ∙ row-kind (getD part 0 0) is in
+          let size = row-length (getD part 0 0) is in
           complete sheet (behind n) wrong rest (omega (arith, long-part)) (rw here refl) (rw here refl)
           (rw here (omega (arith, long-part)))
           ∙ rw here (ap verdictOf (row-order (omega (arith, long-part))))
@@ -308,4 +310,4 @@ module _ (sheet : List ℕ) (n cores : ℕ) (tick : Micros) (entries : List Entr
           complete sheet (behind n) wrong rest (omega (arith, long-part)) (rw here refl) (rw here refl)
           (rw here (omega (arith, long-part)))
           ∙ rw here (ap verdictOf (end-order (omega (arith, long-part))))
-          ∙ sym (end-placed (behind n) (length part) reading (field 1 1 part) (rows-placed .1))
+          ∙ sym (end-placed (behind n) (length part) reading (countOn part) (rows-placed .1))

@@ -4,22 +4,22 @@ use native.Mathlib.Omega.{arith}
 use native.Mathlib.Decide.{ℕ-discrete}
 use native.Mathlib.Nat.{div-mul-le-self, lt-div-mul-add}
 use mathlib.Core.Path.{_≡_, refl, sym, ap, subst, _∙_}
-use mathlib.Core.Bool.{false}
-use mathlib.Core.List.{List, [], _∷_, _++_}
+use mathlib.Core.Bool.{true, false}
+use mathlib.Core.List.{List, [], _∷_, _++_, map}
 use lib.Dec.{eqb, ltb}
 use lib.ListN.{length, getD, drop, length-drop, length-append, List·getD-append}
 use lib.Seq.{getD-append-seam}
 use borrow.Author.Tests.{leb-false, ltb-false, eqb-false, eqb-true, not-false}
 use Rattle.laws.specs.Permuted.{Permuted, as-is}
 use Rattle.laws.proofs.Permuted.{permuted-length}
-use Rattle.records.specs.Records.{rowFields, kindOf, isEnd}
+use Rattle.records.specs.Records.{sizeOn, isRowKind, kindOn, rowFields, isEnd}
 use Rattle.records.proofs.Bytes.{field-one, field-two}
-use Rattle.records.proofs.Records.{length-board, length-row}
+use Rattle.records.proofs.Records.{size-board, is-row-kind, row-length}
 use Rattle.records.proofs.Parts.{on-board, on-row}
-use Rattle.sheet.specs.Entries.{ticksOf, entryOf, noEntry, used, inserted, Rising}
+use Rattle.sheet.specs.Entries.{ticksOf, rowIn, noEntry, used, inserted, Rising}
 use Rattle.sheet.specs.Checks.{verdictOf}
 use Rattle.sheet.specs.Reader.{newReading, afterRecord}
-use Rattle.sheet.specs.declared.Entry.{Entry}
+use Rattle.records.specs.declared.RowFields.{RowFields}
 use Rattle.sheet.specs.declared.Reading.{Reading}
 use Rattle.sheet.proofs.Faults.{verdict-none}
 use Rattle.sheet.proofs.Reader.{verdictAt, Reads, reads-new, turn-on}
@@ -42,6 +42,7 @@ use Rattle.promises.specs.Sheets.{
   RowsPass,
   InTicks,
   RowRead,
+  RowsInTicks,
 }
 use Rattle.promises.proofs.SheetsChecks.{
   kind-of-part,
@@ -81,44 +82,57 @@ pub few-rows : (sheet : List ℕ) (n : ℕ) → RowsPass sheet n → n ≤ 32
 few-rows sheet zero passed = omega arith
 few-rows sheet (suc n) passed = omega (arith, row-bytes sheet n (passed .1) (passed .2) .room)
 
--- Whole division: the ticks of a time.
-in-ticks : (tick time time′ : ℕ) → 0 < tick → time ≡ time′ → InTicks tick time′ (time / tick)
-in-ticks tick time time′ some same =
+-- Whole division: the ticks of a time, and the rows of entries in ticks.
+in-ticks : (tick time : ℕ) → 0 < tick → InTicks tick time (time / tick)
+in-ticks tick time some =
     record {
       no-more = omega (arith, div-mul-le-self time tick);
       no-less = omega (arith, lt-div-mul-add {a = time} some);
     }
 
+pub rows-in-ticks : (tick : ℕ) (entries : List RowFields) → 0 < tick
+    → RowsInTicks tick entries (map (rowIn (record { 0 = tick })) entries)
+unfolding rowIn ticksOf
+rows-in-ticks tick [] some = tt
+rows-in-ticks tick (entry ∷ entries) some = (
+  record {
+    c = in-ticks tick (entry .c .0) some;
+    d = in-ticks tick (entry .d .0) some;
+    t = in-ticks tick (entry .t .0) some;
+  },
+  rows-in-ticks tick entries some,
+)
+
 -- the entry that the row record at a place gives
 module _ (sheet : List ℕ) (at : ℕ) where
-  pub entryAt : Entry
-  entryAt = entryOf (record { 0 = tickOf sheet }) (rowFields (drop at sheet))
+  pub entryAt : RowFields
+  entryAt = rowFields (drop at sheet)
 
   module _ (long : at + 17 ≤ length sheet) where
     pub entry-priority : entryAt .priority ≡ priorityAt sheet at
-    unfolding entryAt entryOf rowFields
+    unfolding entryAt rowFields
     entry-priority = two-of-part sheet at 3 (at + 3) refl (omega arith)
 
-    pub entry-read : 0 < tickOf sheet → RowRead sheet at entryAt
-    unfolding entryAt entryOf rowFields ticksOf
-    entry-read some =
+    pub entry-read : RowRead sheet at entryAt
+    unfolding entryAt rowFields
+    entry-read =
         record {
           label = two-of-part sheet at 1 (at + 1) refl (omega arith);
           priority = two-of-part sheet at 3 (at + 3) refl (omega arith);
-          c = in-ticks (tickOf sheet) _ _ some (four-of-part sheet at 5 (at + 5) refl (omega arith));
-          d = in-ticks (tickOf sheet) _ _ some (four-of-part sheet at 9 (at + 9) refl (omega arith));
-          t = in-ticks (tickOf sheet) _ _ some (four-of-part sheet at 13 (at + 13) refl (omega arith));
+          c = four-of-part sheet at 5 (at + 5) refl (omega arith);
+          d = four-of-part sheet at 9 (at + 9) refl (omega arith);
+          t = four-of-part sheet at 13 (at + 13) refl (omega arith);
         }
 
 -- the reading of a sheet with these entries so far
-abbrev pub readingOf : List ℕ → List Entry → Reading
+abbrev pub readingOf : List ℕ → List RowFields → Reading
 readingOf sheet entries = rowsAt (coresOf sheet) (record { 0 = tickOf sheet }) entries
 
 -- The reading behind the board and so many rows: its entries are those of the row records, in rising
 -- priority.
 pub record Past (sheet : List ℕ) (n : ℕ) : Type 0 where
-  pub entries : List Entry
-  pub in-order : List Entry
+  pub entries : List RowFields
+  pub in-order : List RowFields
   pub reads : Reads sheet (readingOf sheet entries) (behind n)
   pub some-tick : 0 < tickOf sheet
   pub as-many : length in-order ≡ n
@@ -139,7 +153,7 @@ past-verdict sheet n past =
     (past-count sheet n past) (past .same-used)
 
 past-board : (sheet : List ℕ) → AllPass (boardOrder sheet) → Past sheet 0
-unfolding used isEnd kindOf afterRecord newReading
+unfolding used isEnd afterRecord newReading
 past-board sheet passed =
     let b = board-bytes sheet passed in
     let on = on-board sheet (b .is-board) (b .long) in
@@ -147,7 +161,7 @@ past-board sheet passed =
     let cores = field-one sheet 1 (omega (arith, b .long)) in
     let tick = field-two sheet 2 (omega (arith, b .long)) in
     let turned = turn-on sheet newReading 0 (reads-new sheet) sound (ap isEnd on) in
-    let first : Reads sheet (readingOf sheet []) 4 = rw (on, length-board, board-sheet, cores, tick) at turned in
+    let first : Reads sheet (readingOf sheet []) 4 = rw (on, size-board sheet (b .is-board), board-sheet, cores, tick) at turned in
     record {
       entries = [];
       in-order = [];
@@ -163,24 +177,25 @@ past-board sheet passed =
 -- One row more.
 module _ (sheet : List ℕ) (n : ℕ) (past : Past sheet n) (passed : AllPass (laterOrder sheet n))
     (kind : byte sheet (behind n) ≡ 2) where
-  abbrev new : Entry
+  abbrev new : RowFields
   new = entryAt sheet (behind n)
 
   here : RowBytes sheet n
   here = row-bytes sheet n passed kind
 
   reads-row : Reads sheet (readingOf sheet (inserted new (past .entries))) (behind (suc n))
-  unfolding isEnd kindOf entryAt
+  unfolding isEnd entryAt
   reads-row =
       let part = drop (behind n) sheet in
-      let long : 17 ≤ length part = omega (arith, here .long, length-drop (behind n) sheet) in
-      let on = on-row part (kind-of-part sheet (behind n) ∙ kind) long in
+      let is : isRowKind (kindOn part) ≡ true = is-row-kind (kindOn part) (kind-of-part sheet (behind n) ∙ kind) in
+      let size : sizeOn part ≡ 17 = row-length (kindOn part) is in
+      let on = on-row part is (omega (arith, here .long, length-drop (behind n) sheet)) in
       let sound = sym (past-verdict sheet n past) ∙ verdict-none (laterOrder sheet n) passed in
       let room : length (past .entries) < 32 = omega (arith, here .room, past-count sheet n past) in
       let reading = readingOf sheet (inserted new (past .entries)) in
       let after = after-row (coresOf sheet) (record { 0 = tickOf sheet }) (past .entries) (rowFields part) room in
       let turned = turn-on sheet (readingOf sheet (past .entries)) (behind n) (past .reads) sound (ap isEnd on) in
-      let next : Reads sheet reading (behind n + 17) = rw (on, length-row, after) at turned in
+      let next : Reads sheet reading (behind n + 17) = rw (on, size, after) at turned in
       subst (λ (at : ℕ). Reads sheet reading at) (omega arith) next
 
   -- the priority of the new row counts as used, and those before it do
@@ -204,7 +219,7 @@ module _ (sheet : List ℕ) (n : ℕ) (past : Past sheet n) (passed : AllPass (l
                   ∙ getD-append-seam (past .in-order) new [] noEntry,
               last,
             )
-            (entry-read sheet (behind n) (here .long) (past .some-tick))
+            (entry-read sheet (behind n) (here .long))
         | no other ↦
             rw
             (List·getD-append (past .in-order) (new ∷ []) noEntry i (omega (arith, past .as-many)))

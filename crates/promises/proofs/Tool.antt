@@ -5,13 +5,15 @@ use native.Mathlib.Nat.{div-add-mod'}
 use native.Mathlib.Omega.{arith}
 use mathlib.Core.Path.{_≡_, refl, sym, ap, subst, _∙_}
 use mathlib.Core.Logic.{⊎-elim}
-use mathlib.Core.List.{List, _++_, append-assoc}
+use mathlib.Core.List.{List, [], _∷_, _++_, map, append-assoc}
 use mathlib.Core.Option.{Option, none, some}
 use borrow.Author.Tests.{le-ltb}
 use lib.ListN.{length, getD, length-map, length-take}
 use lib.Seq.{getD-take}
 use Rattle.laws.proofs.Tests.{not-one}
 use Rattle.quantities.specs.Paper.{Paper, faultPaper}
+use Rattle.quantities.specs.Row.{rowOf}
+use Rattle.quantities.specs.declared.Micros.{Micros}
 use Rattle.quantities.specs.declared.Row.{Row}
 use Rattle.quantities.specs.declared.Fault.{Fault}
 use Rattle.laws.specs.Checks.{Check, FirstFailing}
@@ -24,10 +26,11 @@ use Rattle.windows.specs.declared.Answer.{Answer}
 use Rattle.windows.specs.declared.Answer.the-variants.{Shown, NotShown}
 use Rattle.windows.specs.Answer.{Judged, judged}
 use Rattle.windows.proofs.Judgement.{judged-faulty}
-use Rattle.sheet.specs.declared.Entry.{Entry}
+use Rattle.records.specs.declared.RowFields.{RowFields}
 use Rattle.sheet.specs.declared.Sheet.{Sheet}
-use Rattle.sheet.specs.Entries.{noEntry, entriesOf, tableOf}
+use Rattle.sheet.specs.Entries.{rowIn, noEntry, entriesOf, tableOf}
 use Rattle.sheet.specs.Reader.{readOf}
+use Rattle.sheet.proofs.Promises.{table-in-order}
 use Rattle.lines.specs.Words.{ascii}
 use Rattle.lines.specs.Decimal.{decimal}
 use Rattle.lines.specs.Lines.{firstLine, rowLine, rowLines, shownLine, notShownLine, refusedLine}
@@ -50,7 +53,6 @@ use Rattle.promises.specs.Tool.{
   rowTexts,
   notShownText,
   refusedText,
-  rowsIn,
   TextOf,
   turned-away,
   all-shown,
@@ -104,10 +106,19 @@ first-text cores tick rows =
     three-numbers (ascii "cores ") (decimal cores) (ascii " tick ") (decimal tick) (ascii " rows ")
     (decimal rows) (ascii "\n")
 
-row-texts : (entries : List Entry) (bounds : List ℕ) (k : ℕ) → rowLines entries bounds k ≡ rowTexts entries bounds k
+-- the row of an entry in ticks
+row-at : (tick : Micros) (entries : List RowFields) (k : ℕ) → k < length entries
+    → getD (map (rowIn tick) entries) k (rowOf 0 0 0) ≡ rowIn tick (getD entries k noEntry)
+row-at tick [] k h = absurd (omega arith)
+row-at tick (entry ∷ entries) zero h = refl
+row-at tick (entry ∷ entries) (suc k) h = row-at tick entries k (omega arith)
+
+row-texts : (tick : Micros) (entries : List RowFields) (bounds : List ℕ) (k : ℕ) → k ≤ length entries
+    → rowLines tick entries bounds k ≡ rowTexts entries (map (rowIn tick) entries) bounds k
 unfolding rowLines rowLine
-row-texts entries bounds zero = refl
-row-texts entries bounds (suc k) = rw (row-texts entries bounds k) (simp append-assoc)
+row-texts tick entries bounds zero h = refl
+row-texts tick entries bounds (suc k) h =
+    rw (row-texts tick entries bounds k (omega arith), row-at tick entries k (omega arith)) (simp append-assoc)
 
 pub refused-text : (number place : ℕ) → refusedLine number place ≡ refusedText number place
 unfolding refusedLine
@@ -123,25 +134,27 @@ unfolding entriesOf
 in-entries s k h =
     sym (getD-take (s .count) (s .entries) k noEntry (omega (arith, length-take (s .count) (s .entries))))
 
-texts-in-entries : (s : Sheet) (bounds : List ℕ) (k : ℕ) → k ≤ length (entriesOf s)
-    → rowTexts (s .entries) bounds k ≡ rowTexts (entriesOf s) bounds k
-texts-in-entries s bounds zero h = refl
-texts-in-entries s bounds (suc k) h =
-    rw (texts-in-entries s bounds k (omega arith), in-entries s k (omega arith)) refl
+lines-in-entries : (s : Sheet) (bounds : List ℕ) (k : ℕ) → k ≤ length (entriesOf s)
+    → rowLines (s .tick) (s .entries) bounds k ≡ rowLines (s .tick) (entriesOf s) bounds k
+unfolding rowLines
+lines-in-entries s bounds zero h = refl
+lines-in-entries s bounds (suc k) h =
+    rw (lines-in-entries s bounds k (omega arith), in-entries s k (omega arith)) refl
 
 bound-texts : (s : Sheet) (rows : List Row) (bounds : List ℕ) → length bounds ≤ length (entriesOf s)
     → boundLines s rows bounds
-    ≡ firstText (s .cores) (s .tick .0) (length rows) ++ rowTexts (entriesOf s) bounds (length bounds)
+    ≡ firstText (s .cores) (s .tick .0) (length rows)
+    ++ rowTexts (entriesOf s) (map (rowIn (s .tick)) (entriesOf s)) bounds (length bounds)
 unfolding boundLines
 bound-texts s rows bounds h =
     let n = length bounds in
     let first = first-text (s .cores) (s .tick .0) (length rows) in
-    rw (first, row-texts (s .entries) bounds n, texts-in-entries s bounds n h) refl
+    rw (first, lines-in-entries s bounds n h, row-texts (s .tick) (entriesOf s) bounds n h) refl
 
 -- The text of a sheet that was read, where its table has the rows of its entries.
-module _ (s : Sheet) (table : rowsOf (tableOf s) ≡ rowsIn (entriesOf s)) where
+module _ (s : Sheet) (table : rowsOf (tableOf s) ≡ map (rowIn (s .tick)) (entriesOf s)) where
   abbrev rows : List Row
-  rows = rowsIn (entriesOf s)
+  rows = map (rowIn (s .tick)) (entriesOf s)
 
   abbrev j : Judged
   j = judged (s .cores) rows
@@ -151,7 +164,7 @@ module _ (s : Sheet) (table : rowsOf (tableOf s) ≡ rowsIn (entriesOf s)) where
   text-judged = rw table refl
 
   as-many : length rows ≡ length (entriesOf s)
-  as-many = length-map (entriesOf s) (λ (entry : Entry). entry .row)
+  as-many = length-map (entriesOf s) (rowIn (s .tick))
 
   told : (answer : Answer) → j .answer ≡ answer → JudgedBy (s .cores) rows j
       → JudgedBy (s .cores) rows (record { answer = answer; bounds = j .bounds })
@@ -159,7 +172,7 @@ module _ (s : Sheet) (table : rowsOf (tableOf s) ≡ rowsIn (entriesOf s)) where
       subst (λ (a : Answer). JudgedBy (s .cores) rows (record { answer = a; bounds = j .bounds })) e right
 
   text-faulty : (fault : Fault) → listFault (s .cores) rows ≡ some fault
-      → TextOf (s .cores) (s .tick .0) (entriesOf s) (sheetText s)
+      → TextOf (s .cores) (s .tick .0) (entriesOf s) rows (sheetText s)
   unfolding listFault judgedText
   text-faulty fault q =
       let found = fault-first (listChecks (s .cores) rows) fault q in
@@ -169,7 +182,7 @@ module _ (s : Sheet) (table : rowsOf (tableOf s) ≡ rowsIn (entriesOf s)) where
       ∙ refused-text (faultPaper fault .number) (faultPaper fault .place))
 
   text-shown : ListInRange (s .cores) rows → JudgedBy (s .cores) rows j → EveryRowShown rows j
-      → TextOf (s .cores) (s .tick .0) (entriesOf s) (sheetText s)
+      → TextOf (s .cores) (s .tick .0) (entriesOf s) rows (sheetText s)
   unfolding judgedText shownLine
   text-shown range right every =
       let many : length (j .bounds) ≡ length (entriesOf s) = every .each ∙ as-many in
@@ -178,22 +191,22 @@ module _ (s : Sheet) (table : rowsOf (tableOf s) ≡ rowsIn (entriesOf s)) where
       ∙ rw (every .says, judgedText, bound-texts s rows (j .bounds) (omega arith), many, as-many) refl)
 
   text-not-shown : ListInRange (s .cores) rows → JudgedBy (s .cores) rows j → FirstRowNotShown (s .cores) rows j
-      → TextOf (s .cores) (s .tick .0) (entriesOf s) (sheetText s)
+      → TextOf (s .cores) (s .tick .0) (entriesOf s) rows (sheetText s)
   unfolding judgedText
   text-not-shown range right first =
       let n = length (j .bounds) in
       let within : n < length (entriesOf s) = omega (arith, first .stands, as-many) in
       let label : labelAt s (suc n - 1) ≡ getD (entriesOf s) n noEntry .label =
-      ap (labelAt s) {x = suc n - 1} {y = n} (omega arith) ∙ ap (λ (entry : Entry). entry .label) (in-entries s n within) in
+      ap (labelAt s) {x = suc n - 1} {y = n} (omega arith) ∙ ap (λ (entry : RowFields). entry .label) (in-entries s n within) in
       not-shown n (j .bounds) range (told (NotShown 8 (suc n)) (first .says) right)
       (text-judged
       ∙ rw (first .says, judgedText, bound-texts s rows (j .bounds) (omega arith), as-many, label, not-shown-text) refl)
 
-  text-of-sheet : TextOf (s .cores) (s .tick .0) (entriesOf s) (sheetText s)
+  text-of-sheet : TextOf (s .cores) (s .tick .0) (entriesOf s) rows (sheetText s)
   text-of-sheet = by-fault (listFault (s .cores) rows) refl
     where
       by-fault : (found : Option Fault) → listFault (s .cores) rows ≡ found
-          → TextOf (s .cores) (s .tick .0) (entriesOf s) (sheetText s)
+          → TextOf (s .cores) (s .tick .0) (entriesOf s) rows (sheetText s)
       by-fault (some fault) q = text-faulty fault q
       by-fault none q =
           let range = in-range-sound (s .cores) rows (sound-list-means (s .cores) rows .0 q) in
@@ -205,11 +218,12 @@ whole-way : (sheet : List ℕ) (n : ℕ) → WholeWith sheet n → WholeWay shee
 whole-way sheet n w =
     let s = readOf sheet .sheet in
     let reads = sheets-read sheet n w .1 in
+    let rows = table-in-order sheet .1 in
     let text = text-read sheet (readOf sheet) refl (sheets-read sheet n w .0) in
     record {
       found = s;
       reads = reads;
-      prints = rw (← reads .cores, ← reads .tick, text) (text-of-sheet s (reads .table));
+      prints = rw (← reads .cores, ← reads .tick, text, rows) (text-of-sheet s rows);
     }
 
 pub goes-the-whole-way : GoesTheWholeWay textOf
@@ -223,20 +237,20 @@ goes-the-whole-way =
 
 -- Another tool that does prints the same text: of the rows as they are read there is one, and of their
 -- judgement.
-module _ (cores tick : ℕ) (entries : List Entry) where
+module _ (cores tick : ℕ) (entries : List RowFields) (rows : List Row) where
   -- a list that is turned away is not in range
-  not-both : (first : Paper) → FirstFailing (listOrder cores (rowsIn entries)) first → ListInRange cores (rowsIn entries) → ⊥
+  not-both : (first : Paper) → FirstFailing (listOrder cores rows) first → ListInRange cores rows → ⊥
   not-both first failing range =
-      in-range-taken cores (rowsIn entries) range _ (faulty-list-turned-away cores (rowsIn entries) first failing .answers)
+      in-range-taken cores rows range _ (faulty-list-turned-away cores rows first failing .answers)
 
-  same-first : (a b : Paper) → FirstFailing (listOrder cores (rowsIn entries)) a
-      → FirstFailing (listOrder cores (rowsIn entries)) b → a ≡ b
+  same-first : (a b : Paper) → FirstFailing (listOrder cores rows) a
+      → FirstFailing (listOrder cores rows) b → a ≡ b
   same-first a b p q =
       let found : some a ≡ some b =
-      sym (first-found (listOrder cores (rowsIn entries)) a p) ∙ first-found (listOrder cores (rowsIn entries)) b q in
+      sym (first-found (listOrder cores rows) a p) ∙ first-found (listOrder cores rows) b q in
       cc
 
-  one-text : (a b : List ℕ) → TextOf cores tick entries a → TextOf cores tick entries b → a ≡ b
+  one-text : (a b : List ℕ) → TextOf cores tick entries rows a → TextOf cores tick entries rows b → a ≡ b
   one-text a b (turned-away first p e) (turned-away other q f) =
       e ∙ ap (λ (one : Paper). refusedText (one .number) (one .place)) (same-first first other p q) ∙ sym f
   one-text a b (turned-away first p e) (all-shown bounds range q f) = absurd (not-both first p range)
@@ -244,17 +258,17 @@ module _ (cores tick : ℕ) (entries : List Entry) where
   one-text a b (all-shown bounds range q f) (turned-away first p e) = absurd (not-both first p range)
   one-text a b (not-shown before bounds range q f) (turned-away first p e) = absurd (not-both first p range)
   one-text a b (all-shown xs range p e) (all-shown ys range′ q f) =
-      let same = one-judgement-by-rules cores (rowsIn entries) _ _ p q in
+      let same = one-judgement-by-rules cores rows _ _ p q in
       let bounds : xs ≡ ys = ap (λ (j : Judged). j .bounds) same in
       e ∙ rw bounds (sym f)
   one-text a b (all-shown xs range p e) (not-shown n ys range′ q f) =
-      let same = one-judgement-by-rules cores (rowsIn entries) _ _ p q in
+      let same = one-judgement-by-rules cores rows _ _ p q in
       absurd (not-one (cc (ap (λ (j : Judged). j .answer) same)))
   one-text a b (not-shown n ys range′ q f) (all-shown xs range p e) =
-      let same = one-judgement-by-rules cores (rowsIn entries) _ _ p q in
+      let same = one-judgement-by-rules cores rows _ _ p q in
       absurd (not-one (cc (ap (λ (j : Judged). j .answer) same)))
   one-text a b (not-shown m xs range p e) (not-shown n ys range′ q f) =
-      let same = one-judgement-by-rules cores (rowsIn entries) _ _ p q in
+      let same = one-judgement-by-rules cores rows _ _ p q in
       let bounds : xs ≡ ys = ap (λ (j : Judged). j .bounds) same in
       let answers : NotShown 8 (suc m) ≡ NotShown 8 (suc n) = ap (λ (j : Judged). j .answer) same in
       let places : suc m ≡ suc n = cc in
@@ -271,9 +285,9 @@ one-text-printed tool goes sheet =
   where
     same : (n : ℕ) → WholeWay sheet n (tool sheet) → WholeWay sheet n (textOf sheet) → tool sheet ≡ textOf sheet
     same n a b =
-        let entries = ap entriesOf (one-reading sheet n (a .found) (b .found) (a .reads) (b .reads)) in
-        one-text (coresOf sheet) (tickOf sheet) (entriesOf (b .found)) (tool sheet) (textOf sheet)
-        (rw entries at (a .prints)) (b .prints)
+        let found = one-reading sheet n (a .found) (b .found) (a .reads) (b .reads) in
+        one-text (coresOf sheet) (tickOf sheet) (entriesOf (b .found)) (rowsOf (tableOf (b .found))) (tool sheet)
+        (textOf sheet) (rw found at (a .prints)) (b .prints)
 
 -- a buffer with room enough has as many bytes of text as the text is long
 text-counted : (sheet buffer after : List ℕ) (count : ℕ) → 2856 ≤ length buffer → Printed sheet buffer after count

@@ -5,7 +5,7 @@ use mathlib.Core.Bool.{true, false}
 use mathlib.Core.List.{List, [], _∷_, _++_}
 use lib.ListN.{length}
 use Rattle.laws.specs.Each.{Each}
-use Rattle.records.specs.Records.{recordOn, sizeOf, isEnd}
+use Rattle.records.specs.Records.{recordOn, sizeOn, isEnd}
 use Rattle.records.specs.declared.RowFields.{RowFields}
 use Rattle.records.specs.declared.Record.the-variants.{Missing, Unknown, Cut, Board, Row, End}
 use Rattle.sheet.specs.Reader.{readOf}
@@ -67,7 +67,7 @@ pub record RecordsComeBack : Type 0 where
       → Bytes (endBytes count) × (recordOn (endBytes count ++ rest) ≡ End count)
 
 -- What stands on a part where a record should: no byte, a kind that is not 1, 2 or 3, or a record cut short;
--- how many bytes each takes, and which is the end.
+-- how many bytes each takes, whole or cut short, whatever stands behind it, and which is the end.
 pub record PartsTold : Type 0 where
   pub no-byte : recordOn [] ≡ Missing
   pub unknown : (kind : ℕ) (rest : List ℕ) → (kind ≡ 1 → ⊥) → (kind ≡ 2 → ⊥) → (kind ≡ 3 → ⊥)
@@ -75,11 +75,12 @@ pub record PartsTold : Type 0 where
   pub cut-board : (rest : List ℕ) → length rest < 3 → recordOn (1 ∷ rest) ≡ Cut 1
   pub cut-row : (rest : List ℕ) → length rest < 16 → recordOn (2 ∷ rest) ≡ Cut 2
   pub cut-end : recordOn (3 ∷ []) ≡ Cut 3
-  pub sizes-of-cut : (sizeOf (Cut 1) ≡ 4) × (sizeOf (Cut 2) ≡ 17) × (sizeOf (Cut 3) ≡ 2)
-  pub size-of-board : (cores tick : ℕ) → sizeOf (Board cores (record { 0 = tick })) ≡ 4
-  pub size-of-row : (fields : RowFields) → sizeOf (Row fields) ≡ 17
-  pub size-of-end : (count : ℕ) → sizeOf (End count) ≡ 2
-  pub no-size : (sizeOf Missing ≡ 0) × (sizeOf Unknown ≡ 0)
+  pub size-of-board : (rest : List ℕ) → sizeOn (1 ∷ rest) ≡ 4
+  pub size-of-row : (rest : List ℕ) → sizeOn (2 ∷ rest) ≡ 17
+  pub size-of-end : (rest : List ℕ) → sizeOn (3 ∷ rest) ≡ 2
+  pub no-size : sizeOn [] ≡ 0
+  pub size-of-unknown : (kind : ℕ) (rest : List ℕ) → (kind ≡ 1 → ⊥) → (kind ≡ 2 → ⊥) → (kind ≡ 3 → ⊥)
+      → sizeOn (kind ∷ rest) ≡ 0
   pub the-end : (count : ℕ) → isEnd (End count) ≡ true
   pub no-end : (fields : RowFields) (cores tick kind : ℕ)
       → (isEnd (Row fields) ≡ false)

@@ -3,7 +3,7 @@ use Prim.Native.Nat.{ℕ, zero, suc, _+_, _-_, _*_, _≤_, _<_}
 use mathlib.Core.Path.{_≡_}
 use mathlib.Core.Logic.{_⊎_}
 use mathlib.Core.Bool.{Bool, false, not, cond, _||_}
-use mathlib.Core.List.{List, [], _∷_, _++_, map}
+use mathlib.Core.List.{List, [], _∷_, _++_}
 use lib.Dec.{eqb, leb, ltb}
 use lib.ListN.{length, getD, take, drop, replicate}
 use Rattle.laws.specs.Each.{Each}
@@ -11,11 +11,11 @@ use Rattle.laws.specs.Permuted.{Permuted}
 use Rattle.laws.specs.Checks.{Check, FirstFailing}
 use Rattle.quantities.specs.Checks.{check}
 use Rattle.quantities.specs.Paper.{Paper, paper}
-use Rattle.quantities.specs.Row.{rowOf}
+use Rattle.quantities.specs.declared.Row.{Row}
 use Rattle.quantities.specs.Table.{rowsOf}
 use Rattle.sheet.specs.Entries.{entriesOf, tableOf}
 use Rattle.sheet.specs.Reader.{readOf, paperOf}
-use Rattle.sheet.specs.declared.Entry.{Entry}
+use Rattle.records.specs.declared.RowFields.{RowFields}
 use Rattle.sheet.specs.declared.Sheet.{Sheet}
 use Rattle.sheet.specs.declared.Verdict.the-variants.{Sound, Refused}
 use Rattle.sheet.specs.declared.Outcome.{Outcome}
@@ -118,8 +118,15 @@ pub record WholeWith (sheet : List ℕ) (n : ℕ) : Type 0 where
   pub is-end : byte sheet (behind n) ≡ 3
 
 -- an entry that holds no row
-abbrev pub blankEntry : Entry
-blankEntry = record { priority = 0; label = 0; row = rowOf 0 0 0 }
+abbrev pub blankEntry : RowFields
+blankEntry =
+    record {
+      label = 0;
+      priority = 0;
+      c = record { 0 = 0 };
+      d = record { 0 = 0 };
+      t = record { 0 = 0 };
+    }
 
 -- a sheet of no board and no row: each of its 32 entries is blank
 abbrev pub blankSheet : Sheet
@@ -173,25 +180,39 @@ pub record InTicks (tick time ticks : ℕ) : Type 0 where
   pub no-more : ticks * tick ≤ time
   pub no-less : time < (ticks + 1) * tick
 
--- An entry is read of the row record that begins at this place.
-pub record RowRead (sheet : List ℕ) (place : ℕ) (entry : Entry) : Type 0 where
+-- An entry is read of the row record that begins at this place, its times in µs.
+pub record RowRead (sheet : List ℕ) (place : ℕ) (entry : RowFields) : Type 0 where
   pub label : entry .label ≡ labelAt sheet place
   pub priority : entry .priority ≡ priorityAt sheet place
-  pub c : InTicks (tickOf sheet) (fourBytes sheet (place + 5)) (entry .row .c .0)
-  pub d : InTicks (tickOf sheet) (fourBytes sheet (place + 9)) (entry .row .d .0)
-  pub t : InTicks (tickOf sheet) (fourBytes sheet (place + 13)) (entry .row .t .0)
+  pub c : entry .c .0 ≡ fourBytes sheet (place + 5)
+  pub d : entry .d .0 ≡ fourBytes sheet (place + 9)
+  pub t : entry .t .0 ≡ fourBytes sheet (place + 13)
+
+-- A row has the times of an entry in ticks of this length.
+pub record RowInTicks (tick : ℕ) (entry : RowFields) (row : Row) : Type 0 where
+  pub c : InTicks tick (entry .c .0) (row .c .0)
+  pub d : InTicks tick (entry .d .0) (row .d .0)
+  pub t : InTicks tick (entry .t .0) (row .t .0)
+
+-- Rows are those of entries in ticks of this length: one for each, in their order.
+abbrev pub RowsInTicks : (tick : ℕ) → List RowFields → List Row → Type 0
+RowsInTicks tick [] [] = Unit {0}
+RowsInTicks tick [] (row ∷ rows) = ⊥
+RowsInTicks tick (entry ∷ entries) [] = ⊥
+RowsInTicks tick (entry ∷ entries) (row ∷ rows) = RowInTicks tick entry row × RowsInTicks tick entries rows
 
 -- The table in rising priority: each entry has a smaller priority number than every one below it.
-abbrev pub RisingPriority : List Entry → Type 0
+abbrev pub RisingPriority : List RowFields → Type 0
 RisingPriority entries =
     (i j : ℕ) → i < j → j < length entries
     → getD entries i blankEntry .priority < getD entries j blankEntry .priority
 
 -- What is read of a sheet of so many rows: the board's cores and tick length, and its rows, each once, in
--- rising priority with their labels: the first entries of the answer, as many as it counts, and so its table.
+-- rising priority with their labels: the first entries of the answer, as many as it counts, and so its table, whose
+-- rows are theirs in the board's ticks.
 -- `in-sheet-order` are the entries in the order of the records.
 pub record SheetRead (sheet : List ℕ) (n : ℕ) (answer : Sheet) : Type 0 where
-  pub in-sheet-order : List Entry
+  pub in-sheet-order : List RowFields
   pub as-many : length in-sheet-order ≡ n
   pub each-row : (i : ℕ) → i < n → RowRead sheet (behind i) (getD in-sheet-order i blankEntry)
   pub each-once : Permuted in-sheet-order (entriesOf answer)
@@ -200,9 +221,9 @@ pub record SheetRead (sheet : List ℕ) (n : ℕ) (answer : Sheet) : Type 0 wher
   pub count : answer .count ≡ n
   pub listed : entriesOf answer ≡ take n (answer .entries)
   pub blank : drop n (answer .entries) ≡ replicate (32 - n) blankEntry
-  pub table : rowsOf (tableOf answer) ≡ map (λ (entry : Entry). entry .row) (entriesOf answer)
+  pub table : RowsInTicks (tickOf sheet) (entriesOf answer) (rowsOf (tableOf answer))
   pub table-count : tableOf answer .count ≡ n
-  pub table-rows : take n (tableOf answer .rows) ≡ map (λ (entry : Entry). entry .row) (entriesOf answer)
+  pub table-rows : RowsInTicks (tickOf sheet) (entriesOf answer) (take n (tableOf answer .rows))
   pub cores : answer .cores ≡ coresOf sheet
   pub tick : answer .tick .0 ≡ tickOf sheet
 

@@ -1,15 +1,17 @@
 -- The whole way, from the bytes of a sheet to its text: the rows that are read are judged and printed.
 use Prim.Native.Nat.{ℕ, zero, suc, _+_, _*_, _≤_, _<_}
 use mathlib.Core.Path.{_≡_}
-use mathlib.Core.List.{List, [], _∷_, _++_, map}
+use mathlib.Core.List.{List, [], _∷_, _++_}
 use lib.ListN.{length, getD, take, drop}
 use Rattle.quantities.specs.Paper.{Paper}
+use Rattle.quantities.specs.Row.{rowOf}
+use Rattle.quantities.specs.Table.{rowsOf}
 use Rattle.quantities.specs.declared.Row.{Row}
 use Rattle.laws.specs.Checks.{FirstFailing}
 use Rattle.windows.specs.declared.Answer.the-variants.{Shown, NotShown}
-use Rattle.sheet.specs.declared.Entry.{Entry}
+use Rattle.records.specs.declared.RowFields.{RowFields}
 use Rattle.sheet.specs.declared.Sheet.{Sheet}
-use Rattle.sheet.specs.Entries.{entriesOf}
+use Rattle.sheet.specs.Entries.{entriesOf, tableOf}
 use Rattle.lines.specs.Words.{ascii}
 use Rattle.lines.specs.Decimal.{decimal}
 use Rattle.text.specs.Printed.{Printed}
@@ -48,12 +50,13 @@ abbrev pub rowText : (place label bound d : ℕ) → List ℕ
 rowText place label bound d =
     decimal place ++ ascii " " ++ decimal label ++ ascii " " ++ decimal bound ++ ascii " " ++ decimal d ++ ascii "\n"
 
--- the lines of the first so many rows with their bounds; the row with index k stands at place k + 1
-abbrev pub rowTexts : List Entry → List ℕ → ℕ → List ℕ
-rowTexts entries bounds zero = []
-rowTexts entries bounds (suc k) =
-    rowTexts entries bounds k
-    ++ rowText (suc k) (getD entries k blankEntry .label) (getD bounds k 0) (getD entries k blankEntry .row .d .0)
+-- the lines of the first so many entries, with their rows in ticks and their bounds; the row with index k stands at
+-- place k + 1
+abbrev pub rowTexts : List RowFields → List Row → List ℕ → ℕ → List ℕ
+rowTexts entries rows bounds zero = []
+rowTexts entries rows bounds (suc k) =
+    rowTexts entries rows bounds k
+    ++ rowText (suc k) (getD entries k blankEntry .label) (getD bounds k 0) (getD rows k (rowOf 0 0 0) .d .0)
 
 abbrev pub notShownText : (place label : ℕ) → List ℕ
 notShownText place label = ascii "not shown " ++ decimal place ++ ascii " " ++ decimal label ++ ascii "\n"
@@ -62,33 +65,29 @@ notShownText place label = ascii "not shown " ++ decimal place ++ ascii " " ++ d
 abbrev pub refusedText : (number place : ℕ) → List ℕ
 refusedText number place = ascii "refused " ++ decimal number ++ ascii " " ++ decimal place ++ ascii "\n"
 
--- the rows of entries
-abbrev pub rowsIn : List Entry → List Row
-rowsIn entries = map (λ (entry : Entry). entry .row) entries
-
--- The text for entries on a board with so many cores and this tick length is that of the judgement of their
--- own rows: each line has the label and D of the row whose bound stands there.
-pub data TextOf (cores tick : ℕ) (entries : List Entry) (text : List ℕ) : Type 0 where
-  turned-away : (first : Paper) → FirstFailing (listOrder cores (rowsIn entries)) first
+-- The text for entries, and their rows in ticks, on a board with so many cores and this tick length is that of the
+-- judgement of these rows: each line has the label and D of the row whose bound stands there.
+pub data TextOf (cores tick : ℕ) (entries : List RowFields) (rows : List Row) (text : List ℕ) : Type 0 where
+  turned-away : (first : Paper) → FirstFailing (listOrder cores rows) first
       → text ≡ refusedText (first .number) (first .place)
-      → TextOf cores tick entries text
-  all-shown : (bounds : List ℕ) → ListInRange cores (rowsIn entries)
-      → JudgedBy cores (rowsIn entries) (record { answer = Shown; bounds = bounds })
-      → text ≡ firstText cores tick (length entries) ++ rowTexts entries bounds (length entries) ++ ascii "all shown\n"
-      → TextOf cores tick entries text
-  not-shown : (before : ℕ) (bounds : List ℕ) → ListInRange cores (rowsIn entries)
-      → JudgedBy cores (rowsIn entries) (record { answer = NotShown 8 (suc before); bounds = bounds })
+      → TextOf cores tick entries rows text
+  all-shown : (bounds : List ℕ) → ListInRange cores rows
+      → JudgedBy cores rows (record { answer = Shown; bounds = bounds })
+      → text ≡ firstText cores tick (length entries) ++ rowTexts entries rows bounds (length entries) ++ ascii "all shown\n"
+      → TextOf cores tick entries rows text
+  not-shown : (before : ℕ) (bounds : List ℕ) → ListInRange cores rows
+      → JudgedBy cores rows (record { answer = NotShown 8 (suc before); bounds = bounds })
       → text
-      ≡ firstText cores tick (length entries) ++ rowTexts entries bounds before
+      ≡ firstText cores tick (length entries) ++ rowTexts entries rows bounds before
       ++ notShownText (suc before) (getD entries before blankEntry .label)
-      → TextOf cores tick entries text
+      → TextOf cores tick entries rows text
 
 -- The whole way of a sheet with n rows without fault: the rows of its records in rising priority number, and
 -- the text of the judgement of these rows, on the sheet's own cores.
 pub record WholeWay (sheet : List ℕ) (n : ℕ) (text : List ℕ) : Type 0 where
   pub found : Sheet
   pub reads : SheetRead sheet n found
-  pub prints : TextOf (coresOf sheet) (tickOf sheet) (entriesOf found) text
+  pub prints : TextOf (coresOf sheet) (tickOf sheet) (entriesOf found) (rowsOf (tableOf found)) text
 
 -- A tool that prints a text for the bytes of a sheet goes the whole way; a sheet with a fault is answered by
 -- its first one.

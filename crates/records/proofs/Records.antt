@@ -9,34 +9,60 @@ use lib.ListN.{length, getD}
 use native.Mathlib.Decide.{ℕ-discrete, decLe}
 use borrow.Author.Tests.{eq-eqb, ne-eqb, lt-ltb, le-ltb, eqb-true}
 use Rattle.laws.proofs.Tests.{not-one}
-use Rattle.records.specs.Bytes.{field}
-use Rattle.records.specs.Records.{boardKind, rowKind, endKind, recordLength, rowFields, wholeRecord, recordOn}
+use Rattle.records.specs.Records.{boardKind, rowKind, endKind, boardLength, rowLength, endLength, longestRecord}
+use Rattle.records.specs.Records.{recordLength, isRowKind, kindOn, sizeOn, coresOn, tickOn, countOn}
+use Rattle.records.specs.Records.{rowFields, wholeRecord, recordOn}
 use Rattle.records.specs.declared.Record.{Record}
 use Rattle.records.specs.declared.Record.the-variants.{Missing, Unknown, Cut, Board, Row, End}
 
 -- The lengths that the kinds fix.
-pub length-board : recordLength boardKind ≡ 4
+pub length-board : recordLength boardKind ≡ boardLength
 unfolding recordLength
 length-board = refl
 
-pub length-row : recordLength rowKind ≡ 17
+pub length-row : recordLength rowKind ≡ rowLength
 unfolding recordLength
 length-row = refl
 
-pub length-end : recordLength endKind ≡ 2
+pub length-end : recordLength endKind ≡ endLength
 unfolding recordLength
 length-end = refl
 
--- no record is longer than a row
-pub length-most : (kind : ℕ) → recordLength kind ≤ 17
+pub size-board : (part : List ℕ) → kindOn part ≡ boardKind → sizeOn part ≡ boardLength
+size-board part kind = ap recordLength kind ∙ length-board
+
+pub size-end : (part : List ℕ) → kindOn part ≡ endKind → sizeOn part ≡ endLength
+size-end part kind = ap recordLength kind ∙ length-end
+
+-- no record is longer than this
+pub length-most : (kind : ℕ) → recordLength kind ≤ longestRecord
 unfolding recordLength
 length-most kind = go (eqb kind boardKind) (eqb kind rowKind) (eqb kind endKind)
   where
-    go : (a b c : Bool) → cond a 4 (cond b 17 (cond c 2 0)) ≤ 17
+    go : (a b c : Bool) → cond a boardLength (cond b rowLength (cond c endLength 0)) ≤ longestRecord
     go true b c = omega arith
     go false true c = omega arith
     go false false true = omega arith
     go false false false = omega arith
+
+-- Row records: their kind, and their length.
+pub row-kind : (kind : ℕ) → isRowKind kind ≡ true → kind ≡ rowKind
+unfolding isRowKind
+row-kind kind is = eqb-true kind rowKind is
+
+pub is-row-kind : (kind : ℕ) → kind ≡ rowKind → isRowKind kind ≡ true
+unfolding isRowKind
+is-row-kind kind e = eq-eqb kind rowKind e
+
+pub row-no-board : (kind : ℕ) → isRowKind kind ≡ true → kind ≡ boardKind → ⊥
+row-no-board kind is e = omega (arith, row-kind kind is)
+
+pub row-length : (kind : ℕ) → isRowKind kind ≡ true → recordLength kind ≡ rowLength
+row-length kind is = ap recordLength (row-kind kind is) ∙ length-row
+
+-- a row record has a byte or more
+pub row-some : (kind : ℕ) → isRowKind kind ≡ true → 0 < recordLength kind
+row-some kind is = omega (arith, row-length kind is)
 
 -- a kind that some record has, and that is neither a board's nor a row's, is an end's
 pub other-is-end : (kind : ℕ) → (kind ≡ boardKind → ⊥) → (kind ≡ rowKind → ⊥) → (recordLength kind ≡ 0 → ⊥) → kind ≡ endKind
@@ -47,7 +73,8 @@ other-is-end kind no-board no-row known = go (eqb kind endKind) refl
     go true e = eqb-true kind endKind e
     go false e = absurd (known (simp (ne-eqb kind boardKind no-board, ne-eqb kind rowKind no-row, e)))
 
-pub other-length : (kind : ℕ) → (kind ≡ boardKind → ⊥) → (kind ≡ rowKind → ⊥) → (recordLength kind ≡ 0 → ⊥) → recordLength kind ≡ 2
+pub other-length : (kind : ℕ) → (kind ≡ boardKind → ⊥) → (kind ≡ rowKind → ⊥) → (recordLength kind ≡ 0 → ⊥)
+    → recordLength kind ≡ endLength
 other-length kind no-board no-row known = ap recordLength (other-is-end kind no-board no-row known) ∙ length-end
 
 -- What stands on a part, by the first test that decides.
@@ -57,6 +84,14 @@ module _ (part : List ℕ) where
   on-nothing = at part
     where
       at : (some : List ℕ) → length some ≡ 0 → recordOn some ≡ Missing
+      at [] e = refl
+      at (kind ∷ body) e = absurd (omega arith)
+
+  pub size-nothing : length part ≡ 0 → sizeOn part ≡ 0
+  unfolding recordLength
+  size-nothing = at part
+    where
+      at : (some : List ℕ) → length some ≡ 0 → sizeOn some ≡ 0
       at [] e = refl
       at (kind ∷ body) e = absurd (omega arith)
 
@@ -92,16 +127,16 @@ module _ (part : List ℕ) where
 
 -- A whole record by its kind.
 module _ (kind : ℕ) (part : List ℕ) where
-  pub whole-board : kind ≡ boardKind → wholeRecord kind part ≡ Board (field 1 1 part) (record { 0 = field 2 2 part })
+  pub whole-board : kind ≡ boardKind → wholeRecord kind part ≡ Board (coresOn part) (tickOn part)
   unfolding wholeRecord
   whole-board e = simp (eq-eqb kind boardKind e)
 
-  pub whole-row : (kind ≡ boardKind → ⊥) → kind ≡ rowKind → wholeRecord kind part ≡ Row (rowFields part)
+  pub whole-row : (kind ≡ boardKind → ⊥) → isRowKind kind ≡ true → wholeRecord kind part ≡ Row (rowFields part)
   unfolding wholeRecord
-  whole-row no-board e = simp (ne-eqb kind boardKind no-board, eq-eqb kind rowKind e)
+  whole-row no-board is = simp (ne-eqb kind boardKind no-board, is)
 
-  pub whole-end : (kind ≡ boardKind → ⊥) → (kind ≡ rowKind → ⊥) → wholeRecord kind part ≡ End (field 1 1 part)
-  unfolding wholeRecord
+  pub whole-end : (kind ≡ boardKind → ⊥) → (kind ≡ rowKind → ⊥) → wholeRecord kind part ≡ End (countOn part)
+  unfolding wholeRecord isRowKind
   whole-end no-board no-row = simp (ne-eqb kind boardKind no-board, ne-eqb kind rowKind no-row)
 
 -- What can stand on a part, with what that says of the part.
@@ -109,9 +144,9 @@ pub data Found (part : List ℕ) : Record → Type 0 where
   nothing : length part ≡ 0 → Found part Missing
   unknown : 0 < length part → recordLength (getD part 0 0) ≡ 0 → Found part Unknown
   cut : 0 < length part → length part < recordLength (getD part 0 0) → Found part (Cut (getD part 0 0))
-  board : getD part 0 0 ≡ boardKind → 4 ≤ length part → Found part (Board (field 1 1 part) (record { 0 = field 2 2 part }))
-  row : getD part 0 0 ≡ rowKind → 17 ≤ length part → Found part (Row (rowFields part))
-  end : getD part 0 0 ≡ endKind → 2 ≤ length part → Found part (End (field 1 1 part))
+  board : kindOn part ≡ boardKind → boardLength ≤ length part → Found part (Board (coresOn part) (tickOn part))
+  row : isRowKind (kindOn part) ≡ true → sizeOn part ≤ length part → Found part (Row (rowFields part))
+  end : kindOn part ≡ endKind → endLength ≤ length part → Found part (End (countOn part))
 
 whole-found : (part : List ℕ) → (recordLength (getD part 0 0) ≡ 0 → ⊥) → recordLength (getD part 0 0) ≤ length part
     → Found part (wholeRecord (getD part 0 0) part)
@@ -120,7 +155,9 @@ whole-found part known long =
       | yes b ↦ rw (whole-board (getD part 0 0) part b) (board b (omega (arith, ap recordLength b, length-board)))
       | no no-board ↦
           elim (ℕ-discrete (getD part 0 0) rowKind) [
-            | yes r ↦ rw (whole-row (getD part 0 0) part no-board r) (row r (omega (arith, ap recordLength r, length-row)))
+            | yes r ↦
+                let is = is-row-kind (getD part 0 0) r in
+                rw (whole-row (getD part 0 0) part no-board is) (row is long)
             | no no-row ↦
                 rw
                 (whole-end (getD part 0 0) part no-board no-row)

@@ -4,7 +4,7 @@ ghost use mathlib.Core.Path.{_≡_};
 ghost use Prim.Native.Nat.{_+_, _≤_, _<_};
 ghost use lib.ListN.{length};
 ghost use Rattle.records.specs.Bytes.{field};
-ghost use Rattle.records.specs.Records.{recordLength, rowFields, recordOn, sizeOf, isEnd};
+ghost use Rattle.records.specs.Records.{recordLength, rowLength, rowFields, blankFields, recordOn, sizeOn, isEnd};
 
 // The fields of a row record, as they stand on the sheet.
 pub struct RowFields {
@@ -13,6 +13,21 @@ pub struct RowFields {
     pub c: Micros,
     pub d: Micros,
     pub t: Micros,
+}
+
+impl RowFields {
+    // The fields of no row record: each is 0.
+    pub fn blank() -> RowFields
+        ensures { λ r. ⌜ r ≡ blankFields ⌝ }
+    {
+        RowFields {
+            label: 0,
+            priority: 0,
+            c: Micros(0),
+            d: Micros(0),
+            t: Micros(0),
+        }
+    }
 }
 
 // What stands on the part of a sheet that begins where a record should: no byte, a kind that no record has,
@@ -32,18 +47,22 @@ pub const ROW_KIND: u8 = 2;
 
 pub const END_KIND: u8 = 3;
 
-// The length of an end record, kind byte included: what stands after it on a sheet is too much.
+// The lengths of the records, kind byte included. What stands after an end record on a sheet is too much.
+const BOARD_LENGTH: usize = 4;
+
+const ROW_LENGTH: usize = 17;
+
 pub const END_LENGTH: usize = 2;
 
-// The length of a record by its kind, kind byte included; 0 for a kind that no record has.
+// The length of a record by its kind; 0 for a kind that no record has.
 fn record_length(kind: u8) -> usize
     ensures { λ r. ⌜ r ≡ recordLength kind ⌝ }
 {
     if kind == BOARD_KIND {
-        return 4;
+        return BOARD_LENGTH;
     }
     if kind == ROW_KIND {
-        return 17;
+        return ROW_LENGTH;
     }
     if kind == END_KIND {
         return END_LENGTH;
@@ -91,7 +110,7 @@ fn four_bytes(part: &[u8], at: usize) -> u32
 
 // The fields of a row record that is whole.
 fn row_fields(part: &[u8]) -> RowFields
-    requires { ⌜ 17 ≤ length (now part) ⌝ }
+    requires { ⌜ rowLength ≤ length (now part) ⌝ }
     ensures { λ r. ⌜ r ≡ rowFields (now (part .entry)) ⌝ }
 {
     let label = two_bytes(part, 1);
@@ -136,18 +155,15 @@ pub fn record_on(part: &[u8]) -> Record
     Record::End(count)
 }
 
-// How many bytes a record takes: the length that its kind fixes, also where it is cut short; 0 where there is no kind.
-pub fn size(found: Record) -> usize
-    ensures { λ r. ⌜ r ≡ sizeOf found ⌝ }
+// How many bytes the record on a part takes: the length that its kind fixes, also where it is cut short; 0 where there
+// is no byte, or a kind that no record has.
+pub fn size_on(part: &[u8]) -> usize
+    ensures { λ r. ⌜ r ≡ sizeOn (now (part .entry)) ⌝ }
 {
-    match found {
-        Record::Missing => 0,
-        Record::Unknown => 0,
-        Record::Cut(kind) => record_length(kind),
-        Record::Board(_, _) => record_length(BOARD_KIND),
-        Record::Row(_) => record_length(ROW_KIND),
-        Record::End(_) => record_length(END_KIND),
+    if part.len() == 0 {
+        return 0;
     }
+    record_length(part[0])
 }
 
 // Whether a record is the end record.

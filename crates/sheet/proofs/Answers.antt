@@ -8,13 +8,13 @@ use lib.ListN.{length, drop, length-append}
 use Rattle.laws.specs.Permuted.{Permuted, as-is, keep, swap, both}
 use Rattle.laws.proofs.Permuted.{permuted-back, permuted-length, permuted-each}
 use Rattle.quantities.specs.declared.Micros.{Micros}
-use Rattle.records.specs.Records.{rowKind, rowFields, recordOn, sizeOf, isEnd, OneRecord}
+use Rattle.records.specs.Records.{coresOn, tickOn, rowFields, recordOn, sizeOn, isEnd, RowRecord}
 use Rattle.records.specs.declared.Record.{Record}
-use Rattle.records.proofs.Records.{length-board, length-end}
-use Rattle.sheet.specs.Entries.{entryOf, entriesOf, insertedAll, sheetOf, Rising, Different}
-use Rattle.sheet.specs.Reader.{noSheet, newReading, afterRecord, refused, whole, readFrom, readOf}
-use Rattle.sheet.specs.Whole.{joined, entriesOn, coresOn, tickOn, Permitted, WholeSheet, bytesOf, MadeOf}
-use Rattle.sheet.specs.declared.Entry.{Entry}
+use Rattle.records.proofs.Parts.{board-long, end-long}
+use Rattle.sheet.specs.Entries.{entriesOf, insertedAll, sheetOf, Rising, Different}
+use Rattle.sheet.specs.Reader.{noSheet, newReading, afterRecord, refused, whole, readOf}
+use Rattle.sheet.specs.Whole.{joined, entriesOn, Permitted, WholeSheet, bytesOf, MadeOf}
+use Rattle.records.specs.declared.RowFields.{RowFields}
 use Rattle.sheet.specs.declared.Sheet.{Sheet}
 use Rattle.sheet.specs.declared.Reading.{Reading}
 use Rattle.sheet.specs.declared.Verdict.{Verdict}
@@ -22,7 +22,7 @@ use Rattle.sheet.specs.declared.Verdict.the-variants.{Sound, Refused}
 use Rattle.sheet.specs.declared.Outcome.{Outcome}
 use Rattle.sheet.proofs.Entries.{used-below}
 use Rattle.sheet.proofs.Checks.{sound-not-refused}
-use Rattle.sheet.proofs.Reader.{verdictAt, behind, read-refused, read-whole, read-on}
+use Rattle.sheet.proofs.Reader.{verdictAt, readFrom, behind, read-none, read-refused, read-whole, read-on, read-of}
 use Rattle.sheet.proofs.Order.{rising-permuted, unused-first, unused-rest}
 use Rattle.sheet.proofs.Sheets.{entries-of-sheet}
 use Rattle.sheet.proofs.Accepted.{accepted-rising, all-permuted, used-permuted}
@@ -31,14 +31,14 @@ use Rattle.sheet.proofs.Sound.{sound-made}
 
 -- The entries of the rows that a sheet without fault is made of, in rising priority.
 module _ (board : List ℕ) (rows : List (List ℕ)) (end : List ℕ) (w : WholeSheet board rows end) where
-  abbrev pub arranged : List Entry
-  arranged = insertedAll (entriesOn (tickOn board) rows) []
+  abbrev pub arranged : List RowFields
+  arranged = insertedAll (entriesOn rows) []
 
   pub arranged-rise : Rising arranged
-  arranged-rise = accepted-rising [] (entriesOn (tickOn board) rows) tt (whole-accepted board rows end w)
+  arranged-rise = accepted-rising [] (entriesOn rows) tt (whole-accepted board rows end w)
 
-  pub arranged-each-once : Permuted (entriesOn (tickOn board) rows) arranged
-  arranged-each-once = rw append-nil at (all-permuted [] (entriesOn (tickOn board) rows))
+  pub arranged-each-once : Permuted (entriesOn rows) arranged
+  arranged-each-once = rw append-nil at (all-permuted [] (entriesOn rows))
 
 -- The answer for a sheet that is made as document 01 asks.
 module _ (sheet : List ℕ) (m : MadeOf sheet) where
@@ -55,28 +55,28 @@ module _ (sheet : List ℕ) (m : MadeOf sheet) where
       ap (λ (o : Outcome). entriesOf (o .sheet)) answer-made ∙ entries-of-sheet (coresOn (m .board)) (tickOn (m .board)) (arranged (m .board) (m .rows) (m .end) (m .in-order))
 
   -- the table's rows are the sheet's rows, each once, with the same labels and times
-  pub rows-each-once : Permuted (entriesOn (tickOn (m .board)) (m .rows)) (entriesOf (readOf sheet .sheet))
+  pub rows-each-once : Permuted (entriesOn (m .rows)) (entriesOf (readOf sheet .sheet))
   rows-each-once = rw entries-made (arranged-each-once (m .board) (m .rows) (m .end) (m .in-order))
 
   pub made-short : length sheet ≤ 550
   made-short =
       let w = m .in-order in
       omega
-      (arith, ap length (m .made), length-append (m .board) (joined (m .rows) ++ m .end), length-append (joined (m .rows)) (m .end), length-joined (m .rows) (w .then-rows), w .few-rows, w .board-first .in-full, length-board, w .end-last .in-full, length-end)
+      (arith, ap length (m .made), length-append (m .board) (joined (m .rows) ++ m .end), length-append (joined (m .rows)) (m .end), length-joined (m .rows) (w .then-rows) .most, w .few-rows, board-long (m .board) (w .board-first), end-long (m .end) (w .end-last))
 
 -- a sheet without fault is at most 550 bytes
 pub sound-short : (sheet : List ℕ) → readOf sheet .verdict ≡ Sound → length sheet ≤ 550
 sound-short sheet s = made-short sheet (sound-made sheet s)
 
 -- Rows in another order.
-entries-permuted : (tick : Micros) {rows others : List (List ℕ)} → Permuted rows others → Permuted (entriesOn tick rows) (entriesOn tick others)
+entries-permuted : {rows others : List (List ℕ)} → Permuted rows others → Permuted (entriesOn rows) (entriesOn others)
 unfolding entriesOn
-entries-permuted tick as-is = as-is
-entries-permuted tick (keep row p) = keep (entryOf tick (rowFields row)) (entries-permuted tick p)
-entries-permuted tick (swap row other) = swap (entryOf tick (rowFields row)) (entryOf tick (rowFields other))
-entries-permuted tick (both p q) = both (entries-permuted tick p) (entries-permuted tick q)
+entries-permuted as-is = as-is
+entries-permuted (keep row p) = keep (rowFields row) (entries-permuted p)
+entries-permuted (swap row other) = swap (rowFields row) (rowFields other)
+entries-permuted (both p q) = both (entries-permuted p) (entries-permuted q)
 
-different-permuted : {xs ys : List Entry} → Permuted xs ys → Different xs → Different ys
+different-permuted : {xs ys : List RowFields} → Permuted xs ys → Different xs → Different ys
 different-permuted as-is d = d
 different-permuted (keep x p) d = (sym (used-permuted (x .priority) p) ∙ d .0, different-permuted p (d .1))
 different-permuted (swap {xs} x y) d =
@@ -87,12 +87,12 @@ different-permuted (both p q) d = different-permuted q (different-permuted p d)
 module _ (board : List ℕ) (rows others : List (List ℕ)) (end : List ℕ) (p : Permuted rows others) (w : WholeSheet board rows end) where
   pub whole-in-any-order : WholeSheet board others end
   whole-in-any-order =
-      let q = entries-permuted (tickOn board) p in
+      let q = entries-permuted p in
       let l = permuted-length p in
       record {
         board-first = w .board-first;
         some-tick = w .some-tick;
-        then-rows = permuted-each (OneRecord rowKind) p (w .then-rows);
+        then-rows = permuted-each RowRecord p (w .then-rows);
         few-rows = omega (arith, w .few-rows);
         permitted = permuted-each Permitted q (w .permitted);
         different = different-permuted q (w .different);
@@ -103,9 +103,9 @@ module _ (board : List ℕ) (rows others : List (List ℕ)) (end : List ℕ) (p 
   pub rows-in-any-order : readOf (bytesOf board others end) ≡ readOf (bytesOf board rows end)
   rows-in-any-order =
       let v = whole-in-any-order in
-      let q = both (permuted-back (arranged-each-once board others end v)) (both (permuted-back (entries-permuted (tickOn board) p)) (arranged-each-once board rows end w)) in
+      let q = both (permuted-back (arranged-each-once board others end v)) (both (permuted-back (entries-permuted p)) (arranged-each-once board rows end w)) in
       let same = rising-permuted (arranged board others end v) (arranged board rows end w) (arranged-rise board others end v) (arranged-rise board rows end w) q in
-      whole-read board others end v ∙ ap (λ (es : List Entry). whole (sheetOf (coresOn board) (tickOn board) es)) same ∙ sym (whole-read board rows end w)
+      whole-read board others end v ∙ ap (λ (es : List RowFields). whole (sheetOf (coresOn board) (tickOn board) es)) same ∙ sym (whole-read board rows end w)
 
 -- A refused sheet yields no table.
 refused-is : (o : Outcome) (a b number place : ℕ) → o ≡ refused a b → o .verdict ≡ Refused number place → o ≡ refused number place
@@ -121,10 +121,10 @@ whole-not-refused o s number place e v =
 from-refused : (limit : ℕ) (reading : Reading) (at : ℕ) (part : List ℕ) (number place : ℕ)
     → readFrom limit reading at part .verdict ≡ Refused number place
     → readFrom limit reading at part ≡ refused number place
-unfolding readFrom
-from-refused zero reading at part number place e = refused-is (refused 11 at) 11 at number place refl e
+from-refused zero reading at part number place e =
+    refused-is (readFrom 0 reading at part) 11 at number place (read-none reading at part) e
 from-refused (suc limit) reading at part number place e =
-    by-verdict (from-refused limit (afterRecord reading one) (at + sizeOf one) (drop (sizeOf one) part) number place) (verdictAt at reading part) refl
+    by-verdict (from-refused limit (afterRecord reading one) (at + sizeOn part) (drop (sizeOn part) part) number place) (verdictAt at reading part) refl
   where
     one : Record
     one = recordOn part
@@ -138,16 +138,17 @@ from-refused (suc limit) reading at part number place e =
 
     by-end : Later → (b : Bool) → isEnd one ≡ b → verdictAt at reading part ≡ Sound → now ≡ refused number place
     by-end later true last s =
-        absurd (whole-not-refused now (reading .sheet) number place (read-whole limit reading at part s last) e)
+        absurd (whole-not-refused now (reading .sheet) number place (read-whole reading at part limit s last) e)
     by-end later false last s =
-        let on = read-on limit reading at part s last in
+        let on = read-on reading at part limit s last in
         on ∙ later (ap (λ (x : Outcome). x .verdict) (sym on) ∙ e)
 
     by-verdict : Later → (v : Verdict) → verdictAt at reading part ≡ v → now ≡ refused number place
     by-verdict later Sound s = by-end later (isEnd one) refl s
-    by-verdict later (Refused a b) s = refused-is now a b number place (read-refused limit reading at part a b s) e
+    by-verdict later (Refused a b) s = refused-is now a b number place (read-refused reading at part limit a b s) e
 
 pub refused-no-table : (sheet : List ℕ) (number place : ℕ)
     → readOf sheet .verdict ≡ Refused number place → readOf sheet ≡ refused number place
-unfolding readOf
-refused-no-table sheet number place = from-refused (suc (length sheet)) newReading 0 sheet number place
+refused-no-table sheet number place e =
+    let read = read-of sheet in
+    read ∙ from-refused (suc (length sheet)) newReading 0 sheet number place (ap (λ (o : Outcome). o .verdict) (sym read) ∙ e)

@@ -1,8 +1,8 @@
 -- Laws of the checks of a record: which one decides.
-use Prim.Native.Nat.{ℕ, _≤_, _<_}
+use Prim.Native.Nat.{ℕ, _+_, _≤_, _<_}
 use native.Mathlib.Omega.{arith}
 use mathlib.Core.Path.{_≡_, refl, sym, _∙_}
-use mathlib.Core.Bool.{Bool, true, false}
+use mathlib.Core.Bool.{Bool, true, false, not, cond, _&&_}
 use mathlib.Core.List.{List, [], _∷_}
 use lib.Dec.{eqb, ltb}
 use borrow.Author.Tests.{eq-eqb, ne-eqb, le-ltb, le-leb, lt-leb, eqb-true, eqb-false, leb-false, ltb-false, not-false}
@@ -12,14 +12,15 @@ use Rattle.laws.specs.Checks.{Check, firstFailing}
 use Rattle.quantities.specs.Paper.{Paper}
 use Rattle.quantities.specs.Checks.{check}
 use Rattle.quantities.specs.declared.Micros.{Micros}
-use Rattle.records.specs.Records.{boardKind, rowKind, endKind}
+use Rattle.records.specs.Records.{boardKind, rowKind, endKind, endLength, isEnd}
 use Rattle.records.specs.declared.RowFields.{RowFields}
+use Rattle.records.specs.declared.Record.{Record}
 use Rattle.records.specs.declared.Record.the-variants.{Missing, Unknown, Cut, Board, Row, End}
-use Rattle.records.proofs.Records.{length-end}
 use Rattle.sheet.specs.Entries.{entriesOf, used}
-use Rattle.sheet.specs.Checks.{topPriority, misplaced, boardChecks, rowChecks, endChecks, recordChecks, verdictOf}
+use Rattle.sheet.specs.Checks.{topPriority, misplaced, boardChecks, rowChecks, endChecks, recordChecks, ownChecks, verdictOf}
 use Rattle.sheet.specs.declared.Sheet.{Sheet}
 use Rattle.sheet.specs.declared.Reading.{Reading}
+use Rattle.sheet.specs.declared.Verdict.{Verdict}
 use Rattle.sheet.specs.declared.Verdict.the-variants.{Sound, Refused}
 
 -- a verdict is not both
@@ -140,15 +141,15 @@ sound-row at sheet priority s =
       unused = c .0;
     }
 
--- an end record is sound exactly where it counts the rows and is the last two bytes
+-- an end record is sound exactly where it counts the rows and nothing stands after it
 pub record SoundEnd (left : ℕ) (sheet : Sheet) (count : ℕ) : Type 0 where
   pub counted : count ≡ sheet .count
-  pub last : left ≤ 2
+  pub last : left ≤ endLength
 
 pub end-sound : (at left : ℕ) (sheet : Sheet) (count : ℕ) → SoundEnd left sheet count → verdictOf (endChecks at left sheet count) ≡ Sound
 unfolding endChecks verdictOf firstFailing
 end-sound at left sheet count e =
-    simp (length-end, eq-eqb count (sheet .count) (e .counted), le-ltb 2 left (e .last))
+    simp (eq-eqb count (sheet .count) (e .counted), le-ltb endLength left (e .last))
 
 pub sound-end : (at left : ℕ) (sheet : Sheet) (count : ℕ) → verdictOf (endChecks at left sheet count) ≡ Sound → SoundEnd left sheet count
 unfolding endChecks
@@ -157,7 +158,7 @@ sound-end at left sheet count s =
     let b = sound-first 18 _ _ _ (a .1) in
     record {
       counted = eqb-true count (sheet .count) (not-false (eqb count (sheet .count)) (a .0));
-      last = ltb-false 2 left (rw length-end at (b .0));
+      last = ltb-false endLength left (b .0);
     }
 
 -- a board record is sound exactly where its tick length is not 0
@@ -171,3 +172,35 @@ sound-board at tick s =
     let a = sound-first 19 at _ _ s in
     let z = eqb-false (tick .0) 0 (a .0) in
     omega arith
+
+-- A verdict by itself, and then whether more bytes stand behind the end record (18).
+unfoldable pub closedVerdict : Verdict → ℕ → Bool → Verdict
+closedVerdict (Refused number place) end more = Refused number place
+closedVerdict Sound end more = cond more (Refused 18 end) Sound
+
+not-closed : (verdict : Verdict) (end : ℕ) → verdict ≡ closedVerdict verdict end false
+unfolding closedVerdict
+not-closed Sound end = refl
+not-closed (Refused number place) end = refl
+
+-- 18 comes after all the others, and concerns the end record alone
+pub checks-closed : (at left : ℕ) (reading : Reading) (one : Record)
+    → verdictOf (recordChecks at left reading one)
+    ≡ closedVerdict (verdictOf (ownChecks at reading one)) (at + endLength) (isEnd one && ltb endLength left)
+unfolding recordChecks isEnd endChecks verdictOf firstFailing closedVerdict
+checks-closed at left reading Missing = not-closed _ (at + endLength)
+checks-closed at left reading Unknown = not-closed _ (at + endLength)
+checks-closed at left reading (Cut kind) = not-closed _ (at + endLength)
+checks-closed at left reading (Board cores tick) = not-closed _ (at + endLength)
+checks-closed at left reading (Row fields) = not-closed _ (at + endLength)
+checks-closed at left reading (End count) =
+    go (misplaced (reading .begun) endKind) (not (eqb count (reading .sheet .count))) (ltb endLength left)
+  where
+    three : Bool → Bool → Bool → Verdict
+    three a b c = verdictOf (check 13 at a ∷ check 17 at b ∷ check 18 (at + endLength) c ∷ [])
+
+    go : (a b c : Bool) → three a b c ≡ closedVerdict (three a b false) (at + endLength) c
+    go true b c = refl
+    go false true c = refl
+    go false false true = refl
+    go false false false = refl

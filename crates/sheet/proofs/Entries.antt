@@ -10,7 +10,7 @@ use lib.Seq.{drop-cons, getD-take, take-suc, take-suc-set, drop-set-lt, take-set
 use borrow.Author.Tests.{eq-eqb, ne-eqb, lt-ltb, le-ltb}
 use Rattle.quantities.specs.Limits.{rowCapacity}
 use Rattle.sheet.specs.Entries.{noEntry, entriesOf, used, inserted}
-use Rattle.sheet.specs.declared.Entry.{Entry}
+use Rattle.records.specs.declared.RowFields.{RowFields}
 use Rattle.sheet.specs.declared.Sheet.{Sheet}
 
 module _ (sheet : Sheet) (i : ℕ) where
@@ -34,7 +34,7 @@ module _ (sheet : Sheet) (i : ℕ) where
       drop-of-length-le (take (sheet .count) (sheet .entries)) {i = i} (omega (arith, length-take (sheet .count) (sheet .entries)))
 
 -- Whether a priority is used: the first entry has it, or those below it decide.
-module _ (priority : ℕ) (entry : Entry) (entries : List Entry) where
+module _ (priority : ℕ) (entry : RowFields) (entries : List RowFields) where
   pub used-here : entry .priority ≡ priority → used priority (entry ∷ entries) ≡ true
   unfolding used
   used-here e = simp (eq-eqb (entry .priority) priority e)
@@ -44,10 +44,10 @@ module _ (priority : ℕ) (entry : Entry) (entries : List Entry) where
   used-below other = simp (ne-eqb (entry .priority) priority other)
 
 -- Entries in which the first i of n have been passed, with `carried` still to go to its place among the others.
-unfoldable pub passing : ℕ → ℕ → List Entry → Entry → List Entry
+unfoldable pub passing : ℕ → ℕ → List RowFields → RowFields → List RowFields
 passing n i entries carried = take i entries ++ (inserted carried (slice i n entries) ++ drop (suc n) entries)
 
-module _ (n i : ℕ) (entries : List Entry) (carried : Entry) (h : i < n) (l : n < length entries) where
+module _ (n i : ℕ) (entries : List RowFields) (carried : RowFields) (h : i < n) (l : n < length entries) where
   -- an entry with no larger number stays where it is
   pub passing-stays : getD entries i noEntry .priority ≤ carried .priority
       → passing n (suc i) entries carried ≡ passing n i entries carried
@@ -69,13 +69,13 @@ module _ (n i : ℕ) (entries : List Entry) (carried : Entry) (h : i < n) (l : n
       (simp (later, drop-set-lt (suc n) entries i carried (omega arith), lt-ltb (carried .priority) (getD entries i noEntry .priority) k, append-assoc))
 
 -- past the last entry the carried one has its place
-pub passing-end : (n : ℕ) (entries : List Entry) (carried : Entry) → n < length entries
+pub passing-end : (n : ℕ) (entries : List RowFields) (carried : RowFields) → n < length entries
     → set entries n carried ≡ passing n n entries carried
 unfolding passing inserted
 passing-end n entries carried l = rw (set-split entries n carried l, slice-empty n entries, inserted)
 
 -- before the first entry nothing is passed
-pub passing-start : (n : ℕ) (entries : List Entry) (new : Entry)
+pub passing-start : (n : ℕ) (entries : List RowFields) (new : RowFields)
     → passing n 0 entries new ≡ inserted new (take n entries) ++ drop (n + 1) entries
 unfolding passing
 passing-start n entries new = rw add-one

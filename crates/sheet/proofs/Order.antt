@@ -14,11 +14,11 @@ use Rattle.laws.specs.Permuted.{Permuted, as-is, keep, swap, both}
 use Rattle.laws.proofs.Permuted.{permuted-back, permuted-length, permuted-member}
 use Rattle.laws.proofs.Lists.{each-member}
 use Rattle.sheet.specs.Entries.{used, inserted, Rising}
-use Rattle.sheet.specs.declared.Entry.{Entry}
+use Rattle.records.specs.declared.RowFields.{RowFields}
 use Rattle.sheet.proofs.Entries.{used-below}
 
 -- what the entries and the new one have, they have with it
-pub each-inserted : (P : Entry → Type 0) (new : Entry) (entries : List Entry) → P new → Each P entries → Each P (inserted new entries)
+pub each-inserted : (P : RowFields → Type 0) (new : RowFields) (entries : List RowFields) → P new → Each P entries → Each P (inserted new entries)
 unfolding inserted
 each-inserted P new [] h e = (h, tt)
 each-inserted P new (x ∷ entries) h e =
@@ -29,7 +29,7 @@ each-inserted P new (x ∷ entries) h e =
     go false p q = (e .0, q)
 
 -- the new entry is added, and nothing else changes but the order
-pub inserted-permuted : (new : Entry) (entries : List Entry) → Permuted (new ∷ entries) (inserted new entries)
+pub inserted-permuted : (new : RowFields) (entries : List RowFields) → Permuted (new ∷ entries) (inserted new entries)
 unfolding inserted
 inserted-permuted new [] = as-is
 inserted-permuted new (x ∷ entries) =
@@ -40,11 +40,11 @@ inserted-permuted new (x ∷ entries) =
     go true p q = keep new p
     go false p q = both (swap new x) (keep x q)
 
-pub length-inserted : (new : Entry) (entries : List Entry) → length (inserted new entries) ≡ suc (length entries)
+pub length-inserted : (new : RowFields) (entries : List RowFields) → length (inserted new entries) ≡ suc (length entries)
 length-inserted new entries = sym (permuted-length (inserted-permuted new entries))
 
 -- What it says that a priority is used by none of the entries.
-module _ (p : ℕ) (x : Entry) (entries : List Entry) (u : used p (x ∷ entries) ≡ false) where
+module _ (p : ℕ) (x : RowFields) (entries : List RowFields) (u : used p (x ∷ entries) ≡ false) where
   pub unused-first : x .priority ≡ p → ⊥
   unfolding used
   unused-first = eqb-false (x .priority) p (go (eqb (x .priority) p) u)
@@ -57,19 +57,19 @@ module _ (p : ℕ) (x : Entry) (entries : List Entry) (u : used p (x ∷ entries
   unused-rest = sym (used-below p x entries unused-first) ∙ u
 
 -- a priority above which all the entries stand is used by none of them
-pub above-unused : (p : ℕ) (entries : List Entry) → Each (λ x. p < x .priority) entries → used p entries ≡ false
+pub above-unused : (p : ℕ) (entries : List RowFields) → Each (λ x. p < x .priority) entries → used p entries ≡ false
 unfolding used
 above-unused p [] e = refl
 above-unused p (x ∷ entries) e =
     let h : p < x .priority = e .0 in
     used-below p x entries (λ q. omega arith) ∙ above-unused p entries (e .1)
 
-weaken : (m n : ℕ) (entries : List Entry) → m < n → Each (λ x. n < x .priority) entries → Each (λ x. m < x .priority) entries
+weaken : (m n : ℕ) (entries : List RowFields) → m < n → Each (λ x. n < x .priority) entries → Each (λ x. m < x .priority) entries
 weaken m n [] h e = tt
 weaken m n (x ∷ entries) h e = let k : n < x .priority = e .0 in (omega arith, weaken m n entries h (e .1))
 
 -- rising entries with a new one whose priority they do not use rise
-pub inserted-rising : (new : Entry) (entries : List Entry) → Rising entries → used (new .priority) entries ≡ false → Rising (inserted new entries)
+pub inserted-rising : (new : RowFields) (entries : List RowFields) → Rising entries → used (new .priority) entries ≡ false → Rising (inserted new entries)
 unfolding inserted
 inserted-rising new [] r u = (tt, tt)
 inserted-rising new (x ∷ entries) r u =
@@ -90,7 +90,8 @@ inserted-rising new (x ∷ entries) r u =
         (each-inserted (λ y. x .priority < y .priority) new entries (omega arith) (r .0), q)
 
 -- Rising entries have one order only.
-first-same : (x y : Entry) (xs ys : List Entry) → Rising (x ∷ xs) → Rising (y ∷ ys) → Member x (y ∷ ys) → Member y (x ∷ xs) → x ≡ y
+first-same : (x y : RowFields) (xs ys : List RowFields) → Rising (x ∷ xs) → Rising (y ∷ ys)
+    → Member x (y ∷ ys) → Member y (x ∷ xs) → x ≡ y
 first-same x y xs ys r s m n =
     ⊎-elim
     (λ (e : x ≡ y). e)
@@ -104,18 +105,18 @@ first-same x y xs ys r s m n =
     n)
     m
 
-rest-in : (x y : Entry) (xs ys : List Entry) → x ≡ y → Each (λ z. x .priority < z .priority) xs → ((a : Entry) → Member a (x ∷ xs) → Member a (y ∷ ys))
-    → (a : Entry) → Member a xs → Member a ys
+rest-in : (x y : RowFields) (xs ys : List RowFields) → x ≡ y → Each (λ z. x .priority < z .priority) xs → ((a : RowFields) → Member a (x ∷ xs) → Member a (y ∷ ys))
+    → (a : RowFields) → Member a xs → Member a ys
 rest-in x y xs ys same r f a m =
     ⊎-elim
     (λ (e : a ≡ y).
     let h = each-member (λ z. x .priority < z .priority) a xs r m in
-    let k = ap (λ (z : Entry). z .priority) (e ∙ sym same) in
+    let k = ap (λ (z : RowFields). z .priority) (e ∙ sym same) in
     absurd (omega arith))
     (λ (t : Member a ys). t)
     (f a (inr m))
 
-pub rising-same : (xs ys : List Entry) → Rising xs → Rising ys → ((a : Entry) → Member a xs → Member a ys) → ((a : Entry) → Member a ys → Member a xs) → xs ≡ ys
+pub rising-same : (xs ys : List RowFields) → Rising xs → Rising ys → ((a : RowFields) → Member a xs → Member a ys) → ((a : RowFields) → Member a ys → Member a xs) → xs ≡ ys
 rising-same [] [] r s f g = refl
 rising-same [] (y ∷ ys) r s f g = absurd (g y (inl refl))
 rising-same (x ∷ xs) [] r s f g = absurd (f x (inl refl))
@@ -124,6 +125,6 @@ rising-same (x ∷ xs) (y ∷ ys) r s f g =
     let t = rising-same xs ys (r .1) (s .1) (rest-in x y xs ys e (r .0) f) (rest-in y x ys xs (sym e) (s .0) g) in
     cc
 
-pub rising-permuted : (xs ys : List Entry) → Rising xs → Rising ys → Permuted xs ys → xs ≡ ys
+pub rising-permuted : (xs ys : List RowFields) → Rising xs → Rising ys → Permuted xs ys → xs ≡ ys
 rising-permuted xs ys r s p =
     rising-same xs ys r s (λ a. permuted-member a p) (λ a. permuted-member a (permuted-back p))

@@ -2,23 +2,25 @@
 use Prim.Native.Nat.{ℕ, _≤_}
 use native.Mathlib.Omega.{arith}
 use mathlib.Core.Path.{_≡_, refl, sym, ap, _∙_}
-use mathlib.Core.List.{List, []}
+use mathlib.Core.List.{List, [], map}
 use lib.ListN.{length}
 use Rattle.laws.proofs.Permuted.{permuted-length}
 use Rattle.quantities.specs.Limits.{rowCapacity}
+use Rattle.quantities.specs.Table.{rowsOf}
 use Rattle.quantities.specs.declared.Micros.{Micros}
-use Rattle.sheet.specs.Entries.{sheetOf, Rising}
+use Rattle.sheet.specs.Entries.{rowIn, entriesOf, tableIn, tableOf, sheetOf, Rising}
 use Rattle.sheet.specs.Reader.{noSheet, refused, whole, readOf, paperOf}
-use Rattle.sheet.specs.Whole.{coresOn, tickOn, MadeOf}
+use Rattle.records.specs.Records.{coresOn, tickOn}
+use Rattle.sheet.specs.Whole.{MadeOf}
 use Rattle.sheet.specs.Promises.{MissingAtTheEnd, WholeExactly, BoardAnswered, EachRowOnce, PrioritiesRise, TableInOrder, AnyOrder, NoTableRefused, FaultySheetTurnedAway, RefusedByFirstFault, AtMost550, First1024, OneOutcome}
-use Rattle.sheet.specs.declared.Entry.{Entry}
+use Rattle.records.specs.declared.RowFields.{RowFields}
 use Rattle.sheet.specs.declared.Sheet.{Sheet}
 use Rattle.sheet.specs.declared.Verdict.{Verdict}
 use Rattle.sheet.specs.declared.Verdict.the-variants.{Sound, Refused}
 use Rattle.sheet.specs.declared.Outcome.{Outcome}
 use Rattle.sheet.proofs.Sheets.{board-sheet, entries-of-sheet}
 use Rattle.sheet.proofs.Faults.{missing-refused, first-fault-refused, refused-first-fault}
-use Rattle.sheet.proofs.Tables.{table-rows}
+use Rattle.sheet.proofs.Tables.{table-rows-in}
 use Rattle.sheet.proofs.Whole.{length-entries}
 use Rattle.sheet.proofs.Sound.{sound-made}
 use Rattle.sheet.proofs.Answers.{arranged, arranged-rise, arranged-each-once, answer-made, made-sound, rows-each-once, sound-short, rows-in-any-order, refused-no-table}
@@ -39,7 +41,7 @@ each-row-once = rows-each-once
 record Answered (sheet : Sheet) : Type 0 where
   cores : ℕ
   tick : Micros
-  entries : List Entry
+  entries : List RowFields
   is-sheet : sheet ≡ sheetOf cores tick entries
   few : length entries ≤ rowCapacity
   rise : Rising entries
@@ -57,7 +59,7 @@ answered sheet = by-verdict (readOf sheet .verdict) refl
           tick = tickOn (m .board);
           entries = arranged (m .board) (m .rows) (m .end) w;
           is-sheet = ap (λ (o : Outcome). o .sheet) (answer-made sheet m);
-          few = omega (arith, w .few-rows, length-entries (tickOn (m .board)) (m .rows));
+          few = omega (arith, w .few-rows, length-entries (m .rows));
           rise = arranged-rise (m .board) (m .rows) (m .end) w;
         }
 
@@ -80,9 +82,15 @@ priorities-rise sheet =
     rw (a .is-sheet, entries-of-sheet (a .cores) (a .tick) (a .entries)) (a .rise)
 
 pub table-in-order : TableInOrder readOf
+unfolding tableOf
 table-in-order sheet =
     let a = answered sheet in
-    rw (a .is-sheet, entries-of-sheet (a .cores) (a .tick) (a .entries)) (table-rows (a .cores) (a .tick) (a .entries) (a .few))
+    let all : (tick : Micros)
+    → rowsOf (tableIn (readOf sheet .sheet) tick) ≡ map (rowIn tick) (entriesOf (readOf sheet .sheet)) =
+    λ tick.
+    rw (a .is-sheet, entries-of-sheet (a .cores) (a .tick) (a .entries))
+    (table-rows-in (a .cores) (a .tick) tick (a .entries) (a .few)) in
+    (all, all (readOf sheet .sheet .tick))
 
 pub any-order : AnyOrder
 any-order = rows-in-any-order

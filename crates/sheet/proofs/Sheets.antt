@@ -10,7 +10,7 @@ use borrow.Author.Tests.{lt-ltb}
 use Rattle.quantities.specs.Limits.{rowCapacity}
 use Rattle.quantities.specs.declared.Micros.{Micros}
 use Rattle.sheet.specs.Entries.{noEntry, boardSheet, entriesOf, inserted, withEntry, sheetOf}
-use Rattle.sheet.specs.declared.Entry.{Entry}
+use Rattle.records.specs.declared.RowFields.{RowFields}
 use Rattle.sheet.proofs.Order.{length-inserted}
 
 module _ (cores : ℕ) (tick : Micros) where
@@ -18,22 +18,26 @@ module _ (cores : ℕ) (tick : Micros) where
   unfolding boardSheet sheetOf
   board-sheet = refl
 
-  pub entries-of-sheet : (entries : List Entry) → entriesOf (sheetOf cores tick entries) ≡ entries
+  pub entries-of-sheet : (entries : List RowFields) → entriesOf (sheetOf cores tick entries) ≡ entries
   unfolding entriesOf sheetOf
   entries-of-sheet entries = take-append-seam entries (replicate (rowCapacity - length entries) noEntry)
 
-  pub count-of-sheet : (entries : List Entry) → sheetOf cores tick entries .count ≡ length entries
+  pub count-of-sheet : (entries : List RowFields) → sheetOf cores tick entries .count ≡ length entries
   unfolding sheetOf
   count-of-sheet entries = refl
 
+  pub tick-of-sheet : (entries : List RowFields) → sheetOf cores tick entries .tick ≡ tick
+  unfolding sheetOf
+  tick-of-sheet entries = refl
+
   -- past the entries and one more, one place less is left
-  room-left : (entries : List Entry) → length entries < rowCapacity
+  room-left : (entries : List RowFields) → length entries < rowCapacity
       → drop (length entries + 1) (entries ++ replicate (rowCapacity - length entries) noEntry) ≡ replicate (rowCapacity - suc (length entries)) noEntry
   room-left entries h =
       let e : rowCapacity - length entries ≡ suc (rowCapacity - suc (length entries)) = omega arith in
       rw (drop-append-add entries (replicate (rowCapacity - length entries) noEntry) 1, e)
 
-  pub sheet-with : (entries : List Entry) (new : Entry) → length entries < rowCapacity
+  pub sheet-with : (entries : List RowFields) (new : RowFields) → length entries < rowCapacity
       → withEntry (sheetOf cores tick entries) new ≡ sheetOf cores tick (inserted new entries)
   unfolding withEntry sheetOf entriesOf
   sheet-with entries new h =

@@ -4,15 +4,22 @@ use mathlib.Core.Path.{_≡_, refl}
 use mathlib.Core.List.{List, [], _∷_, _++_}
 use lib.ListN.{replicate}
 use Rattle.quantities.specs.Row.{rowOf}
-use Rattle.quantities.specs.declared.Row.{Row}
-use Rattle.sheet.specs.Entries.{noEntry}
+use Rattle.quantities.specs.Table.{rowsOf}
+use Rattle.records.specs.declared.RowFields.{RowFields}
+use Rattle.sheet.specs.Entries.{noEntry, tableIn, tableOf}
 use Rattle.sheet.specs.Reader.{refused, whole, readOf}
 use Rattle.sheet.specs.Computing.{sheets-compute}
-use Rattle.sheet.specs.declared.Entry.{Entry}
 use Rattle.sheet.specs.declared.Verdict.the-variants.{Sound}
 
-abbrev entry : ℕ → ℕ → Row → Entry
-entry priority label row = record { priority = priority; label = label; row = row }
+abbrev entry : (priority label c d t : ℕ) → RowFields
+entry priority label c d t =
+    record {
+      label = label;
+      priority = priority;
+      c = record { 0 = c };
+      d = record { 0 = d };
+      t = record { 0 = t };
+    }
 
 -- the records of the sheet of document 01: 2 cores and a tick of 100 µs, the rows of priority 1, 10 and 2
 abbrev board : List ℕ
@@ -27,21 +34,34 @@ tenth = 2 ∷ 0 ∷ 110 ∷ 0 ∷ 10 ∷ 0 ∷ 0 ∷ 0 ∷ 200 ∷ 0 ∷ 0 ∷ 1
 abbrev second : List ℕ
 second = 2 ∷ 0 ∷ 102 ∷ 0 ∷ 2 ∷ 0 ∷ 0 ∷ 1 ∷ 44 ∷ 0 ∷ 0 ∷ 3 ∷ 32 ∷ 0 ∷ 0 ∷ 3 ∷ 32 ∷ []
 
+abbrev documentSheet : List ℕ
+documentSheet = board ++ first ++ tenth ++ second ++ (3 ∷ 3 ∷ [])
+
 -- the sheet of document 01: 2 comes before 10
-sheet-of-document : readOf (board ++ first ++ tenth ++ second ++ (3 ∷ 3 ∷ [])) ≡
+sheet-of-document : readOf documentSheet ≡
     whole
     (record {
       cores = 2;
       tick = record { 0 = 100 };
       count = 3;
       entries =
-          entry 1 101 (rowOf 2 5 5)
-          ∷ entry 2 102 (rowOf 3 8 8)
-          ∷ entry 10 110 (rowOf 2 4 10)
+          entry 1 101 200 500 500
+          ∷ entry 2 102 300 800 800
+          ∷ entry 10 110 200 400 1000
           ∷ replicate 29 noEntry;
     })
 unfolding sheets-compute
 sheet-of-document = refl
+
+-- its table: the times in ticks of 100 µs, and in those of another board
+rows-of-document : rowsOf (tableOf (readOf documentSheet .sheet)) ≡ rowOf 2 5 5 ∷ rowOf 3 8 8 ∷ rowOf 2 4 10 ∷ []
+unfolding sheets-compute
+rows-of-document = refl
+
+rows-in-other-ticks : rowsOf (tableIn (readOf documentSheet .sheet) (record { 0 = 150 }))
+    ≡ rowOf 1 3 3 ∷ rowOf 2 5 5 ∷ rowOf 1 2 6 ∷ []
+unfolding sheets-compute
+rows-in-other-ticks = refl
 
 -- no byte; an end record first; a kind that no record has, whatever follows it
 empty-sheet : readOf [] ≡ refused 11 0

@@ -9,7 +9,7 @@ use Rattle.laws.specs.Checks.{Check, firstFailing}
 use Rattle.quantities.specs.Paper.{Paper}
 use Rattle.quantities.specs.Checks.{check}
 use Rattle.quantities.specs.declared.Micros.{Micros}
-use Rattle.records.specs.Records.{boardKind, rowKind, endKind, recordLength}
+use Rattle.records.specs.Records.{boardKind, rowKind, endKind, endLength}
 use Rattle.records.specs.declared.Record.{Record}
 use Rattle.records.specs.declared.Record.the-variants.{Missing, Unknown, Cut, Board, Row, End}
 use Rattle.sheet.specs.Entries.{entriesOf, used}
@@ -42,7 +42,7 @@ rowChecks at sheet priority =
 unfoldable pub endChecks : ℕ → ℕ → Sheet → ℕ → List (Check Paper)
 endChecks at left sheet count =
     check 17 at (not (eqb count (sheet .count)))
-    ∷ check 18 (at + recordLength endKind) (ltb (recordLength endKind) left)
+    ∷ check 18 (at + endLength) (ltb endLength left)
     ∷ []
 
 -- the check that a record of a kind stands where it may
@@ -59,6 +59,10 @@ recordChecks at left reading (Row fields) =
     placeCheck at reading rowKind ∷ rowChecks at (reading .sheet) (fields .priority)
 recordChecks at left reading (End count) =
     placeCheck at reading endKind ∷ endChecks at left (reading .sheet) count
+
+-- the checks of what was found at a place, by itself: nothing that stands behind it counts
+abbrev pub ownChecks : ℕ → Reading → Record → List (Check Paper)
+ownChecks at reading found = recordChecks at endLength reading found
 
 -- the verdict of checks: the number and the place of the first one that fails
 unfoldable pub verdictOf : List (Check Paper) → Verdict

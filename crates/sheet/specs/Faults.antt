@@ -9,9 +9,9 @@ use Rattle.laws.specs.Each.{Each}
 use Rattle.laws.specs.Permuted.{Permuted}
 use Rattle.laws.specs.Checks.{Check, FirstFailing}
 use Rattle.quantities.specs.Paper.{Paper, paper}
-use Rattle.records.specs.Records.{boardKind, rowKind, recordOn, sizeOf, isEnd, OneRecord}
+use Rattle.records.specs.Records.{boardKind, tickOn, recordOn, sizeOn, isEnd, OneRecord, RowRecord}
 use Rattle.sheet.specs.Entries.{entriesOf}
-use Rattle.sheet.specs.Whole.{joined, entriesOn, tickOn}
+use Rattle.sheet.specs.Whole.{joined, entriesOn}
 use Rattle.records.specs.declared.Record.{Record}
 use Rattle.sheet.specs.Checks.{recordChecks}
 use Rattle.sheet.specs.Reader.{newReading, afterRecord}
@@ -20,6 +20,10 @@ use Rattle.sheet.specs.declared.Reading.{Reading}
 -- what stands at a place of a sheet where a record should
 abbrev pub recordAt : List ℕ → ℕ → Record
 recordAt sheet at = recordOn (drop at sheet)
+
+-- how many bytes it takes
+abbrev pub sizeAt : List ℕ → ℕ → ℕ
+sizeAt sheet at = sizeOn (drop at sheet)
 
 -- its checks, in their order, after the records that gave this reading
 abbrev pub checksAt : List ℕ → Reading → ℕ → List (Check Paper)
@@ -31,7 +35,7 @@ pub data ReadTo (sheet : List ℕ) : Reading → ℕ → Type 0 where
   next : {reading : Reading} {at : ℕ} → ReadTo sheet reading at
       → Each (λ one. one .fails ≡ false) (checksAt sheet reading at)
       → isEnd (recordAt sheet at) ≡ false
-      → ReadTo sheet (afterRecord reading (recordAt sheet at)) (at + sizeOf (recordAt sheet at))
+      → ReadTo sheet (afterRecord reading (recordAt sheet at)) (at + sizeAt sheet at)
 
 -- The rows that a reading knows are those of the sheet up to a place: a board record, then row records, each entered once.
 pub record RowsRead (sheet : List ℕ) (reading : Reading) (at : ℕ) : Type 0 where
@@ -40,10 +44,10 @@ pub record RowsRead (sheet : List ℕ) (reading : Reading) (at : ℕ) : Type 0 w
   pub stand : take at sheet ≡ board ++ joined rows
   pub ends : at ≡ length (board ++ joined rows)
   pub board-first : OneRecord boardKind board
-  pub then-rows : Each (OneRecord rowKind) rows
+  pub then-rows : Each RowRecord rows
   pub begun : reading .begun ≡ true
   pub counted : reading .sheet .count ≡ length rows
-  pub entered : Permuted (entriesOn (tickOn board) rows) (entriesOf (reading .sheet))
+  pub entered : Permuted (entriesOn rows) (entriesOf (reading .sheet))
 
 -- What a reading stands for: nothing was read, or a board record and rows were.
 abbrev pub ReadToMeans : Type 0

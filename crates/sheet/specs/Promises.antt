@@ -6,11 +6,12 @@ use lib.ListN.{length, take}
 use Rattle.laws.specs.Permuted.{Permuted}
 use Rattle.quantities.specs.Paper.{Paper, paper}
 use Rattle.quantities.specs.Table.{rowsOf}
-use Rattle.sheet.specs.Entries.{entriesOf, tableOf, Rising}
+use Rattle.quantities.specs.declared.Micros.{Micros}
+use Rattle.sheet.specs.Entries.{rowIn, entriesOf, tableIn, tableOf, Rising}
 use Rattle.sheet.specs.Reader.{noSheet, refused, readOf, paperOf}
 use Rattle.sheet.specs.Faults.{recordAt, ReadTo, FirstFault, FaultAt}
-use Rattle.sheet.specs.Whole.{entriesOn, coresOn, tickOn, WholeSheet, bytesOf, MadeOf}
-use Rattle.sheet.specs.declared.Entry.{Entry}
+use Rattle.records.specs.Records.{coresOn, tickOn}
+use Rattle.sheet.specs.Whole.{entriesOn, WholeSheet, bytesOf, MadeOf}
 use Rattle.records.specs.declared.Record.the-variants.{Missing}
 use Rattle.sheet.specs.declared.Reading.{Reading}
 use Rattle.sheet.specs.declared.Verdict.the-variants.{Sound, Refused}
@@ -29,21 +30,22 @@ BoardAnswered read =
     (sheet : List ℕ) (made : MadeOf sheet)
     → (read sheet .sheet .cores ≡ coresOn (made .board)) × (read sheet .sheet .tick ≡ tickOn (made .board))
 
--- Its rows are exactly the sheet's rows, each once, with their labels and their times in ticks.
+-- Its rows are exactly the sheet's rows, each once, with their labels and their times.
 abbrev pub EachRowOnce : (List ℕ → Outcome) → Type 0
 EachRowOnce read =
     (sheet : List ℕ) (made : MadeOf sheet)
-    → Permuted (entriesOn (tickOn (made .board)) (made .rows)) (entriesOf (read sheet .sheet))
+    → Permuted (entriesOn (made .rows)) (entriesOf (read sheet .sheet))
 
 -- Their priorities rise strictly.
 abbrev pub PrioritiesRise : (List ℕ → Outcome) → Type 0
 PrioritiesRise read = (sheet : List ℕ) → Rising (entriesOf (read sheet .sheet))
 
--- The table has the rows in that order.
+-- The table in ticks of any length has the rows in that order, their times in these ticks; the table, in the board's.
 abbrev pub TableInOrder : (List ℕ → Outcome) → Type 0
 TableInOrder read =
     (sheet : List ℕ)
-    → rowsOf (tableOf (read sheet .sheet)) ≡ map (λ (entry : Entry). entry .row) (entriesOf (read sheet .sheet))
+    → ((tick : Micros) → rowsOf (tableIn (read sheet .sheet) tick) ≡ map (rowIn tick) (entriesOf (read sheet .sheet)))
+    × (rowsOf (tableOf (read sheet .sheet)) ≡ map (rowIn (read sheet .sheet .tick)) (entriesOf (read sheet .sheet)))
 
 -- Permuting the row records of a sheet without fault leaves its answer the same.
 abbrev pub AnyOrder : Type 0

@@ -5,32 +5,23 @@ use mathlib.Core.List.{List, [], _∷_, _++_}
 use lib.ListN.{length}
 use Rattle.laws.specs.Each.{Each}
 use Rattle.quantities.specs.Limits.{rowCapacity}
-use Rattle.quantities.specs.declared.Micros.{Micros}
-use Rattle.records.specs.Bytes.{field}
-use Rattle.records.specs.Records.{boardKind, rowKind, endKind, rowFields, OneRecord}
-use Rattle.sheet.specs.Entries.{entryOf, Different}
+use Rattle.records.specs.Records.{boardKind, endKind, tickOn, countOn, rowFields, OneRecord, RowRecord}
+use Rattle.sheet.specs.Entries.{Different}
 use Rattle.sheet.specs.Checks.{topPriority}
-use Rattle.sheet.specs.declared.Entry.{Entry}
+use Rattle.records.specs.declared.RowFields.{RowFields}
 
 -- parts one after the other
 unfoldable pub joined : List (List ℕ) → List ℕ
 joined [] = []
 joined (part ∷ parts) = part ++ joined parts
 
--- the cores and the tick length of a board record
-abbrev pub coresOn : List ℕ → ℕ
-coresOn board = field 1 1 board
-
-abbrev pub tickOn : List ℕ → Micros
-tickOn board = record { 0 = field 2 2 board }
-
--- the entries that row records give in ticks of a length, in the order of the records
-unfoldable pub entriesOn : Micros → List (List ℕ) → List Entry
-entriesOn tick [] = []
-entriesOn tick (row ∷ rows) = entryOf tick (rowFields row) ∷ entriesOn tick rows
+-- the entries that row records give, in the order of the records
+unfoldable pub entriesOn : List (List ℕ) → List RowFields
+entriesOn [] = []
+entriesOn (row ∷ rows) = rowFields row ∷ entriesOn rows
 
 -- Priority is 1 to 999.
-pub record Permitted (entry : Entry) : Type 0 where
+pub record Permitted (entry : RowFields) : Type 0 where
   pub filled : 0 < entry .priority
   pub in-range : entry .priority ≤ topPriority
 
@@ -38,12 +29,12 @@ pub record Permitted (entry : Entry) : Type 0 where
 pub record WholeSheet (board : List ℕ) (rows : List (List ℕ)) (end : List ℕ) : Type 0 where
   pub board-first : OneRecord boardKind board
   pub some-tick : 0 < tickOn board .0
-  pub then-rows : Each (OneRecord rowKind) rows
+  pub then-rows : Each RowRecord rows
   pub few-rows : length rows ≤ rowCapacity
-  pub permitted : Each Permitted (entriesOn (tickOn board) rows)
-  pub different : Different (entriesOn (tickOn board) rows)
+  pub permitted : Each Permitted (entriesOn rows)
+  pub different : Different (entriesOn rows)
   pub end-last : OneRecord endKind end
-  pub counted : field 1 1 end ≡ length rows
+  pub counted : countOn end ≡ length rows
 
 -- the sheet that they make
 abbrev pub bytesOf : List ℕ → List (List ℕ) → List ℕ → List ℕ

@@ -6,13 +6,12 @@ use quantities::Micros;
 use quantities::Table;
 use records::BOARD_KIND;
 use records::END_KIND;
-use records::END_LENGTH;
 use records::ROW_KIND;
 use records::Record;
 ghost use mathlib.Core.Path.{_≡_};
-ghost use Prim.Native.Nat.{_+_, _<_, _^_};
+ghost use Rattle.records.specs.Records.{endLength};
 ghost use Rattle.sheet.specs.Checks.{misplaced, boardChecks, rowChecks, endChecks};
-ghost use Rattle.sheet.specs.Checks.{recordChecks, verdictOf};
+ghost use Rattle.sheet.specs.Checks.{ownChecks, verdictOf};
 
 const TOP_PRIORITY: u32 = 999;
 
@@ -53,24 +52,19 @@ fn check_row(sheet: Sheet, priority: u32, at: usize) -> Verdict
     Verdict::Sound
 }
 
-// `left` counts the bytes of the sheet from the end record's kind byte on.
-fn check_end(sheet: Sheet, count: usize, at: usize, left: usize) -> Verdict
-    requires { ⌜ at + left < 2 ^ 64 ⌝ }
-    ensures { λ r. ⌜ r ≡ verdictOf (endChecks at left sheet count) ⌝ }
+// What stands behind the end record does not count here.
+fn check_end(sheet: Sheet, count: usize, at: usize) -> Verdict
+    ensures { λ r. ⌜ r ≡ verdictOf (endChecks at endLength sheet count) ⌝ }
 {
     if count != sheet.count {
         return Verdict::Refused(17, at);
     }
-    if END_LENGTH < left {
-        return Verdict::Refused(18, at + END_LENGTH);
-    }
     Verdict::Sound
 }
 
-// The checks of the record found at a place, with so many bytes of the sheet from there on.
-pub fn check_record(reading: Reading, found: Record, at: usize, left: usize) -> Verdict
-    requires { ⌜ at + left < 2 ^ 64 ⌝ }
-    ensures { λ r. ⌜ r ≡ verdictOf (recordChecks at left reading found) ⌝ }
+// The checks of the record found at a place, by itself.
+pub fn check_record(reading: Reading, found: Record, at: usize) -> Verdict
+    ensures { λ r. ⌜ r ≡ verdictOf (ownChecks at reading found) ⌝ }
 {
     let begun = reading.begun;
     match found {
@@ -102,7 +96,7 @@ pub fn check_record(reading: Reading, found: Record, at: usize, left: usize) -> 
             if is_misplaced(begun, END_KIND) {
                 return Verdict::Refused(13, at);
             }
-            return check_end(reading.sheet, count, at, left);
+            return check_end(reading.sheet, count, at);
         }
     }
 }

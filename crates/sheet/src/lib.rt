@@ -1,32 +1,25 @@
 //! The order sheet of document 01: the table that its rows give, and the reader.
 use judge::check_record;
 use quantities::Micros;
-use quantities::Row;
 use quantities::Table;
 use records::Record;
+use records::RowFields;
 use records::is_end;
 use records::record_on;
-use records::size;
-use rows::entry_of;
+use records::size_on;
 ghost use mathlib.Core.Path.{_≡_};
-ghost use Rattle.sheet.specs.Reader.{newReading, afterRecord, refused, readOf};
+ghost use Rattle.sheet.specs.Reader.{newReading, afterRecord, refused, unread, firstSheetOf, readOf};
 
 mod judge;
 mod rows;
 
-// A row of the table, in ticks, with the priority and the label that its record gave.
-pub struct Entry {
-    pub priority: u32,
-    pub label: u32,
-    pub row: Row,
-}
-
-// A board and its rows in rising priority: the first `count` entries; the capacity is the table's own.
+// A board and its rows in rising priority, as their records say them: the first `count` entries; the capacity is the
+// table's own.
 pub struct Sheet {
     pub cores: u32,
     pub tick: Micros,
     pub count: usize,
-    pub entries: [Entry; Table::ROW_CAPACITY],
+    pub entries: [RowFields; Table::ROW_CAPACITY],
 }
 
 // How far a sheet has been read: whether its board record was, and what the records so far gave.
@@ -39,6 +32,13 @@ pub struct Reading {
 pub enum Verdict {
     Sound,
     Refused(u32, usize),
+}
+
+// The first sheet that stands on some bytes and the place behind its end record, or a refusal with the empty sheet.
+pub struct FirstSheet {
+    pub verdict: Verdict,
+    pub sheet: Sheet,
+    pub end: usize,
 }
 
 // The reader's answer. A refused sheet yields no table: its sheet is the empty one.
@@ -81,8 +81,7 @@ fn after_record(reading: Reading, found: Record) -> Reading
         }
         Record::Row(fields) => {
             let old = reading.sheet;
-            let new = entry_of(fields, old.tick);
-            let sheet = old.with_entry(new);
+            let sheet = old.with_entry(fields);
             return Reading {
                 begun: reading.begun,
                 sheet: sheet,
@@ -94,30 +93,66 @@ fn after_record(reading: Reading, found: Record) -> Reading
     }
 }
 
-// The whole sheet's answer: the board with its rows in rising priority, or a refusal's number and place.
-pub fn read(sheet: &[u8]) -> Outcome
-    ensures { λ r. ⌜ r ≡ readOf (now (sheet .entry)) ⌝ }
+fn no_first(number: u32, place: usize) -> FirstSheet
+    ensures { λ r. ⌜ r ≡ unread number place ⌝ }
+{
+    let sheet = Sheet::of_board(0, Micros(0));
+    FirstSheet {
+        verdict: Verdict::Refused(number, place),
+        sheet: sheet,
+        end: 0,
+    }
+}
+
+// The first sheet that stands on some bytes, and where it ends; what stands behind its end record does not count.
+pub fn read_first(bytes: &[u8]) -> FirstSheet
+    ensures { λ r. ⌜ r ≡ firstSheetOf (now (bytes .entry)) ⌝ }
 {
     let mut reading = new_reading();
     let mut at: usize = 0;
     loop {
-        let left = sheet.len() - at;
-        let found = record_on(&sheet[at..]);
-        let verdict = check_record(reading, found, at, left);
+        let part = &bytes[at..];
+        let found = record_on(part);
+        let verdict = check_record(reading, found, at);
         match verdict {
             Verdict::Refused(number, place) => {
-                return refuse(number, place);
+                return no_first(number, place);
             }
             Verdict::Sound => {}
         }
+        let next = at + size_on(part);
         if is_end(found) {
             let whole = reading.sheet;
-            return Outcome {
+            return FirstSheet {
                 verdict: Verdict::Sound,
                 sheet: whole,
+                end: next,
             };
         }
         reading = after_record(reading, found);
-        at += size(found);
+        at = next;
+    }
+}
+
+// The whole sheet's answer: the board with its rows in rising priority, or a refusal's number and place.
+pub fn read(sheet: &[u8]) -> Outcome
+    ensures { λ r. ⌜ r ≡ readOf (now (sheet .entry)) ⌝ }
+{
+    let first = read_first(sheet);
+    let verdict = first.verdict;
+    match verdict {
+        Verdict::Refused(number, place) => {
+            return refuse(number, place);
+        }
+        Verdict::Sound => {}
+    }
+    let end = first.end;
+    if end < sheet.len() {
+        return refuse(18, end);
+    }
+    let whole = first.sheet;
+    Outcome {
+        verdict: Verdict::Sound,
+        sheet: whole,
     }
 }

@@ -1,5 +1,4 @@
 //! The rows of a sheet: microseconds become ticks, and each row goes to its place by priority.
-use crate::Entry;
 use crate::Sheet;
 use quantities::Micros;
 use quantities::Row;
@@ -7,8 +6,8 @@ use quantities::Table;
 use quantities::Ticks;
 use records::RowFields;
 ghost use mathlib.Core.Path.{_≡_};
-ghost use Rattle.sheet.specs.Entries.{ticksOf, entryOf, boardSheet};
-ghost use Rattle.sheet.specs.Entries.{entriesOf, used, withEntry, tableOf};
+ghost use Rattle.sheet.specs.Entries.{ticksOf, rowIn, boardSheet};
+ghost use Rattle.sheet.specs.Entries.{entriesOf, used, withEntry, tableIn, tableOf};
 
 // A time in ticks: whole division by the tick length; a length of 0, which 19 turns away, gives 0.
 pub fn to_ticks(time: Micros, tick: Micros) -> Ticks
@@ -20,36 +19,22 @@ pub fn to_ticks(time: Micros, tick: Micros) -> Ticks
     Ticks(time.0 / tick.0)
 }
 
-// A row record's fields as an entry of the table, its times in ticks of this length.
-pub fn entry_of(fields: RowFields, tick: Micros) -> Entry
-    ensures { λ r. ⌜ r ≡ entryOf tick fields ⌝ }
-{
-    let c = to_ticks(fields.c, tick);
-    let d = to_ticks(fields.d, tick);
-    let t = to_ticks(fields.t, tick);
-    let row = Row { c: c, d: d, t: t };
-    Entry {
-        priority: fields.priority,
-        label: fields.label,
-        row: row,
-    }
-}
-
 impl Sheet {
+    // A row record's fields as a row of the table, its times in ticks of this length.
+    pub fn row_in(fields: RowFields, tick: Micros) -> Row
+        ensures { λ r. ⌜ r ≡ rowIn tick fields ⌝ }
+    {
+        let c = to_ticks(fields.c, tick);
+        let d = to_ticks(fields.d, tick);
+        let t = to_ticks(fields.t, tick);
+        Row { c: c, d: d, t: t }
+    }
+
     // The sheet of a board with no row yet.
     pub fn of_board(cores: u32, tick: Micros) -> Sheet
         ensures { λ r. ⌜ r ≡ boardSheet cores tick ⌝ }
     {
-        let row = Row {
-            c: Ticks(0),
-            d: Ticks(0),
-            t: Ticks(0),
-        };
-        let none = Entry {
-            priority: 0,
-            label: 0,
-            row: row,
-        };
+        let none = RowFields::blank();
         let entries = [none; Table::ROW_CAPACITY];
         Sheet {
             cores: cores,
@@ -78,7 +63,7 @@ impl Sheet {
     }
 
     // The sheet with one row more, at its place by priority; a full sheet stays as it is.
-    pub fn with_entry(self, new: Entry) -> Sheet
+    pub fn with_entry(self, new: RowFields) -> Sheet
         ensures { λ r. ⌜ r ≡ withEntry self new ⌝ }
     {
         let count = self.count;
@@ -107,9 +92,17 @@ impl Sheet {
         }
     }
 
-    // The table of the sheet's rows, in the order of the entries.
+    // The table of the sheet's rows in its own ticks.
     pub fn table(self) -> Table
         ensures { λ r. ⌜ r ≡ tableOf self ⌝ }
+    {
+        let tick = self.tick;
+        self.table_in(tick)
+    }
+
+    // The table of the sheet's rows in ticks of any length, in the order of the entries.
+    pub fn table_in(self, tick: Micros) -> Table
+        ensures { λ r. ⌜ r ≡ tableIn self tick ⌝ }
     {
         let mut table = Table::empty();
         let mut i: usize = 0;
@@ -118,7 +111,7 @@ impl Sheet {
                 return table;
             }
             let entry = self.entries[i];
-            let row = entry.row;
+            let row = Sheet::row_in(entry, tick);
             table = table.with_row(row);
             i += 1;
         }

@@ -32,7 +32,7 @@ fn end_line() {
 fn print_row(sheet: Sheet, i: usize) {
     if i < Table::ROW_CAPACITY {
         let entry = sheet.entries[i];
-        let row = entry.row;
+        let row = Sheet::row_in(entry, sheet.tick);
         io::write_all(STDOUT_FILENO, b"row");
         print_number(wide(entry.priority));
         print_number(wide(entry.label));

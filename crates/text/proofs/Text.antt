@@ -87,7 +87,7 @@ module _ (sheet : Sheet) (table : Table) (analysis : Analysis) (a : Analysed she
   lines-are : boundLines sheet (rowsOf table) (found .bounds) ≡ linesBefore sheet table analysis (length (found .bounds))
   unfolding boundLines analysisOf
   lines-are =
-      rw (length-rows table, ap (λ (x : Analysis). x .bounds) (a .judges), lines-in-array (sheet .entries) (found .bounds) (length (found .bounds))) refl
+      rw (length-rows table, ap (λ (x : Analysis). x .bounds) (a .judges), lines-in-array (sheet .tick) (sheet .entries) (found .bounds) (length (found .bounds))) refl
 
   text-is : (answer : Answer) → analysis .answer ≡ answer
       → sheetText sheet ≡ judgedText sheet (rowsOf table) (record { answer = answer; bounds = found .bounds })

@@ -5,7 +5,7 @@ use lib.ListN.{getD}
 use Rattle.records.specs.Bytes.{field}
 use Rattle.records.specs.Records.{recordLength, wholeRecord, recordOn}
 use Rattle.records.proofs.Bytes.{field-one}
-use Rattle.records.proofs.Records.{length-board, length-row, other-length, on-nothing, on-unknown, on-cut, on-whole, whole-board, whole-row, whole-end}
+use Rattle.records.proofs.Records.{length-board, length-row, is-row-kind, other-length, on-nothing, on-unknown, on-cut, on-whole, whole-board, whole-row, whole-end}
 use borrow.Author.Needs.{needs}
 use Rattle.records.proofs.record_on.Statement.{statement}
 use Rattle.records.proofs.record_on.Tie as tie
@@ -74,7 +74,7 @@ returns-5 : tie.Need-returns-5
 returns-5 c =
     let part = c .before .before .before .before .before .before .before .before .before .args .part .now in
     let w = whole (c .before .before .before) in
-    let b = whole-row (getD part 0 0) part (c .before .before .if4 .left) (c .before .if5 .taken) in
+    let b = whole-row (getD part 0 0) part (c .before .before .if4 .left) (is-row-kind (getD part 0 0) (c .before .if5 .taken)) in
     cc
 
 shared-slice-read-counted : tie.Need-shared-slice-read-counted

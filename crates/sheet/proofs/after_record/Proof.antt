@@ -35,15 +35,12 @@ returns c = simp (c .before .before .found .given .1) (cc)
 enum-known-found-2 : tie.Need-enum-known-found-2
 enum-known-found-2 c = search needs
 
-entry-of-requires : tie.Need-entry-of-requires
-entry-of-requires c κs = search needs
-
 with-entry-requires : tie.Need-with-entry-requires
 with-entry-requires c κs = search needs
 
 returns-2 : tie.Need-returns-2
 unfolding afterRecord
-returns-2 c = simp (c .before .before .before .before .found2 .given .1) (cc)
+returns-2 c = simp (c .before .before .before .found2 .given .1) (cc)
 
 returns-3 : tie.Need-returns-3
 unfolding afterRecord
@@ -57,7 +54,6 @@ after-record-spec =
     of-board-requires
     returns
     enum-known-found-2
-    entry-of-requires
     with-entry-requires
     returns-2
     returns-3)

@@ -1,8 +1,8 @@
--- entry_of answers a row record's fields as an entry.
-use Rattle.sheet.specs.Entries.{entryOf}
+-- Sheet::row_in answers a row record's fields as a row, in ticks.
+use Rattle.sheet.specs.Entries.{rowIn}
 use borrow.Author.Needs.{needs}
-use Rattle.sheet.proofs.rows.entry_of.Statement.{statement}
-use Rattle.sheet.proofs.rows.entry_of.Tie as tie
+use Rattle.sheet.proofs.Sheet.row_in.Statement.{statement}
+use Rattle.sheet.proofs.Sheet.row_in.Tie as tie
 
 to-ticks-requires : tie.Need-to-ticks-requires
 to-ticks-requires c κs = search needs
@@ -14,9 +14,9 @@ to-ticks-requires-3 : tie.Need-to-ticks-requires-3
 to-ticks-requires-3 c κs = search needs
 
 returns : tie.Need-returns
-unfolding entryOf
+unfolding rowIn
 returns c = rw (c .to-ticks3 .ensures, c .before .to-ticks2 .ensures, c .before .before .to-ticks .ensures)
 
-pub entry-of-spec : {M : Type 1} → statement M
-entry-of-spec =
+pub row-in-spec : {M : Type 1} → statement M
+row-in-spec =
     tie.close (tie.spec to-ticks-requires to-ticks-requires-2 to-ticks-requires-3 returns)

@@ -1,0 +1,15 @@
+-- no_first answers that no sheet is read.
+use Rattle.sheet.specs.Reader.{noSheet, unread}
+use borrow.Author.Needs.{needs}
+use Rattle.sheet.proofs.no_first.Statement.{statement}
+use Rattle.sheet.proofs.no_first.Tie as tie
+
+of-board-requires : tie.Need-of-board-requires
+of-board-requires c κs = search needs
+
+returns : tie.Need-returns
+unfolding unread noSheet
+returns c = cc
+
+pub no-first-spec : {M : Type 1} → statement M
+no-first-spec = tie.close (tie.spec of-board-requires returns)
