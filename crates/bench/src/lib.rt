@@ -8,14 +8,14 @@ use quantities::Ticks;
 use tick::serve;
 ghost use mathlib.Core.Path.{_≡_};
 ghost use mathlib.Core.List.{[]};
-ghost use Prim.Native.Nat.{_<_};
+ghost use Prim.Native.Nat.{_≤_, _<_};
 ghost use Rattle.laws.specs.Checks.{firstFailing};
 ghost use Rattle.quantities.specs.Limits.{rowCapacity};
 ghost use Rattle.bench.specs.Record.{lastInstant, broken};
 ghost use Rattle.bench.specs.Refusal.{outcomeOf, releaseTests, tickTests};
 ghost use Rattle.bench.specs.Ended.{finishesOf, noted};
 ghost use Rattle.bench.specs.History.{doCall, callOf};
-ghost use Rattle.bench.specs.Step.{emptyBench, noBench, openingOf, releasedOf, tickedOf, release, tick};
+ghost use Rattle.bench.specs.Step.{emptyBench, noBench, openingOf, releasedOf, tickedOf, started, release, tick};
 
 mod checks;
 mod tick;
@@ -251,8 +251,25 @@ impl Bench {
         Outcome::Taken
     }
 
+    // The bench with a poll of `demand` started at a place of its states, at the present instant.
+    fn start(mut self, place: usize, demand: Ticks) -> Bench
+        requires { ⌜ (0 < place) × (place ≤ rowCapacity) ⌝ }
+        ensures { λ r. ⌜ r ≡ started self place (demand .0) ⌝ }
+    {
+        let now = self.now;
+        let last = Last::At(now);
+        let fresh = RowState {
+            last: last,
+            demand: demand,
+            left: demand,
+        };
+        let i = place - 1;
+        self.states[i] = fresh;
+        self
+    }
+
     // A poll of `demand` at `place` starts at the present instant; a refused release changes nothing.
-    pub fn release(mut self, place: usize, demand: Ticks) -> Released
+    pub fn release(self, place: usize, demand: Ticks) -> Released
         ensures { λ r. ⌜ r ≡ releasedOf (release self place (demand .0)) ⌝ }
     {
         let outcome = self.judge_release(place, demand);
@@ -265,18 +282,10 @@ impl Bench {
             }
             Outcome::Taken => {}
         }
-        let now = self.now;
-        let last = Last::At(now);
-        let fresh = RowState {
-            last: last,
-            demand: demand,
-            left: demand,
-        };
-        let i = place - 1;
-        self.states[i] = fresh;
+        let bench = self.start(place, demand);
         Released {
             outcome: Outcome::Taken,
-            bench: self,
+            bench: bench,
         }
     }
 

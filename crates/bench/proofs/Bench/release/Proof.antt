@@ -5,7 +5,7 @@ use mathlib.Core.Path.{_≡_, sym, ap, _∙_}
 use borrow.Author.Needs.{needs}
 use Rattle.quantities.specs.Limits.{rowCapacity}
 use Rattle.quantities.proofs.Rows.{length-rows}
-use Rattle.bench.specs.Step.{releasedOf, release, unless, started}
+use Rattle.bench.specs.Step.{releasedOf, release, unless}
 use Rattle.bench.proofs.Record.{Whole, whole-of, sound-fits}
 use Rattle.bench.proofs.Permitted.{MayRelease, may-release, outcome-taken, outcome-refused}
 use Rattle.bench.proofs.Bench.release.Statement.{statement}
@@ -28,45 +28,21 @@ enum-told : tie.Need-enum-told
 enum-told c = search needs
 
 -- a permitted release is at a place of the table
-permitted : (c : tie.After-enum-told)
-    → MayRelease (c .before .before .before .args .t1) (c .before .before .before .args .place) (c .before .before .before .args .demand .0)
-permitted c =
+start-requires : tie.Need-start-requires
+start-requires c κs =
     let j = c .before .before in
     let a = j .before .args in
-    may-release (a .t1) (a .place) (a .demand .0) (outcome-taken _ (sym (j .judge-release .ensures) ∙ c .enum-told .given .1))
-
-at-place : (c : tie.After-enum-told)
-    → (0 < c .before .before .before .args .place) × (c .before .before .before .args .place ≤ rowCapacity)
-at-place c =
-    let a = c .before .before .before .args in
-    let m = permitted c in
-    (m .low, omega (arith, m .high, length-rows (a .t1 .table), sound-fits (a .t1 .cores) (a .t1 .table) (whole-of (a .t1) (m .whole) .sound)))
-
-sub-i : tie.Need-sub-i
-sub-i c = omega (arith, at-place (c .before))
-
-mul-fresh : tie.Need-mul-fresh
-mul-fresh c = omega (arith, at-place (c .before))
-
-element-set-from-fresh : tie.Need-element-set-from-fresh
-element-set-from-fresh c = omega (arith, at-place (c .before))
+    let b = a .self in
+    let m = may-release b (a .place) (a .demand .0) (outcome-taken _ (sym (j .judge-release .ensures) ∙ c .enum-told .given .1)) in
+    (m .low, omega (arith, m .high, length-rows (b .table), sound-fits (b .cores) (b .table) (whole-of b (m .whole) .sound)))
 
 returns-2 : tie.Need-returns-2
-unfolding releasedOf release unless started
+unfolding releasedOf release unless
 returns-2 c =
     let t = c .before in
     let j = t .before .before in
-    simp (outcome-taken _ (sym (j .judge-release .ensures) ∙ t .enum-told .given .1))
+    simp (c .start .ensures, outcome-taken _ (sym (j .judge-release .ensures) ∙ t .enum-told .given .1))
 
 pub release-spec : {M : Type 1} → statement M
 release-spec =
-    tie.close
-    (tie.spec
-    judge-release-requires
-    enum-known-outcome
-    returns
-    enum-told
-    sub-i
-    mul-fresh
-    element-set-from-fresh
-    returns-2)
+    tie.close (tie.spec judge-release-requires enum-known-outcome returns enum-told start-requires returns-2)
