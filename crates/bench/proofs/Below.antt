@@ -11,7 +11,7 @@ use lib.ListN.{length, getD, take, set, replicate}
 use lib.Seq.{getD-take, take-take, take-set-lt, take-set-le}
 use borrow.Author.Tests.{lt-ltb, le-ltb, ltb-true, ltb-false, leb-true, leb-false, ne-eqb}
 use Rattle.laws.specs.Checks.{Check, checkFor, firstFailing}
-use Rattle.laws.proofs.Tests.{and-true}
+use Rattle.laws.proofs.Tests.{and-true, not-one}
 use Rattle.quantities.specs.Limits.{rowCapacity}
 use Rattle.quantities.specs.Row.{cost, noRow}
 use Rattle.quantities.specs.Table.{rowsOf}
@@ -217,7 +217,7 @@ unconcerned-alike {Good} steady k b b' call c a =
   where
     left : (one : Call) → concerns k one ≡ false → Agree k (doCall b one .bench) b'
     left (releases place demand) c = other-alike steady k b b' a place demand c
-    left ticks c = let z : _≡_ {A = ℕ} 0 1 = cc in absurd (omega arith)
+    left ticks c = absurd (not-one cc)
 
 concerned-alike : {Good : Bench → Type 0} (steady : Steady Good) (k : ℕ) (b b' : Bench) (call : Call) → concerns k call ≡ true → Alike Good k b b'
     → Alike Good k (doCall b call .bench) (doCall b' call .bench) × (heardOf k (doCall b call) ≡ heardOf k (doCall b' call))

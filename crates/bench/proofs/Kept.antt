@@ -10,7 +10,7 @@ use lib.ListN.{length, getD, take, set, replicate, length-set, length-replicate}
 use borrow.Author.Tests.{lt-ltb, le-ltb, ltb-false}
 use Rattle.laws.specs.Checks.{checkFor, firstFailing}
 use Rattle.laws.proofs.Checks.{told-has, first-passes}
-use Rattle.laws.proofs.Tests.{or-false}
+use Rattle.laws.proofs.Tests.{or-false, not-one}
 use Rattle.quantities.specs.Limits.{rowCapacity}
 use Rattle.quantities.specs.Row.{cost, noRow}
 use Rattle.quantities.specs.Table.{rowsOf}
@@ -149,7 +149,7 @@ opened-empty cores table b e = at (listFault cores (rowsOf table)) refl e
     at : (found : Option Fault) → listFault cores (rowsOf table) ≡ found → openedAfter found cores table ≡ some b
         → (listFault cores (rowsOf table) ≡ none) × (b ≡ emptyBench cores table)
     at none q e = (q, cc)
-    at (some fault) q e = let z : _≡_ {A = ℕ} 0 1 = cc in absurd (omega arith)
+    at (some fault) q e = absurd (not-one cc)
 
 pub kept-opened : (cores : ℕ) (table : Table) (b : Bench) → opened cores table ≡ some b → Kept b
 kept-opened cores table b e = let (sound, same) = opened-empty cores table b e in rw same (kept-empty cores table sound)
@@ -226,8 +226,8 @@ kept-no-29 b call k = at (call-case b call)
     at {one} (refused why q) e =
         let same : why ≡ BrokenRecord = cc in
         call-not-29 b one (whole-unbroken b (k .whole)) (q ∙ ap some same)
-    at (released q may) e = let z : _≡_ {A = ℕ} 0 1 = cc in omega arith
-    at (ticked q may) e = let z : _≡_ {A = ℕ} 0 1 = cc in omega arith
+    at (released q may) e = not-one cc
+    at (ticked q may) e = not-one cc
 
 pub opened-no-29 : (cores : ℕ) (table : Table) (b : Bench) → opened cores table ≡ some b → (calls : List Call) (call : Call)
     → doCall (after b calls) call .outcome ≡ Refused BrokenRecord → ⊥

@@ -19,7 +19,7 @@ use Rattle.bench.specs.declared.Finish.{Finish}
 use Rattle.bench.specs.declared.Outcome.{Outcome}
 use Rattle.bench.specs.Record.{idle, stateAt}
 use Rattle.bench.specs.Step.{Step, served}
-use Rattle.bench.specs.TickRule.{Gets, PollEnds, Rising, TickRule}
+use Rattle.bench.specs.TickRule.{Gets, PollEnds, RisingPlaces, TickRule}
 use Rattle.bench.specs.Rules.{ReleaseRule, OneRelease, OneTick}
 use Rattle.bench.proofs.TickRule.{gets-one, has-got}
 
@@ -31,8 +31,8 @@ same-states one other n agree = ext-getD idle (one .states) (other .states) n at
     at : (i : ℕ) → i < length (one .states) → getD (one .states) i idle ≡ getD (other .states) i idle
     at i h = let e : suc i - 1 ≡ i = omega arith in rw e at (agree (suc i) (omega arith))
 
--- Rising lists with the same polls are the same.
-member-high : (place : ℕ) (poll : Finish) (polls : List Finish) → Rising place polls → Member poll polls
+-- RisingPlaces lists with the same polls are the same.
+member-high : (place : ℕ) (poll : Finish) (polls : List Finish) → RisingPlaces place polls → Member poll polls
     → place ≤ poll .place
 member-high place poll [] r m = absurd m
 member-high place poll (x ∷ xs) r m =
@@ -41,7 +41,7 @@ member-high place poll (x ∷ xs) r m =
     (λ (t : Member poll xs). let h = member-high (suc (x .place)) poll xs (r .1) t in omega (arith, r .0))
     m
 
-first-same : (x y : Finish) (xs ys : List Finish) → Rising (suc (x .place)) xs → Rising (suc (y .place)) ys
+first-same : (x y : Finish) (xs ys : List Finish) → RisingPlaces (suc (x .place)) xs → RisingPlaces (suc (y .place)) ys
     → Member x (y ∷ ys) → Member y (x ∷ xs) → x ≡ y
 first-same x y xs ys r s m n =
     ⊎-elim
@@ -56,7 +56,7 @@ first-same x y xs ys r s m n =
     n)
     m
 
-rest-in : (x y : Finish) (xs ys : List Finish) → x ≡ y → Rising (suc (x .place)) xs
+rest-in : (x y : Finish) (xs ys : List Finish) → x ≡ y → RisingPlaces (suc (x .place)) xs
     → ((poll : Finish) → Member poll (x ∷ xs) → Member poll (y ∷ ys))
     → (poll : Finish) → Member poll xs → Member poll ys
 rest-in x y xs ys same r f poll m =
@@ -68,7 +68,7 @@ rest-in x y xs ys same r f poll m =
     (λ (t : Member poll ys). t)
     (f poll (inr m))
 
-same-polls : (place other : ℕ) (xs ys : List Finish) → Rising place xs → Rising other ys
+same-polls : (place other : ℕ) (xs ys : List Finish) → RisingPlaces place xs → RisingPlaces other ys
     → ((poll : Finish) → Member poll xs → Member poll ys)
     → ((poll : Finish) → Member poll ys → Member poll xs) → xs ≡ ys
 same-polls place other [] [] r s f g = refl

@@ -10,7 +10,7 @@ use lib.ListN.{length, getD}
 use borrow.Author.Tests.{eq-eqb, ne-eqb, lt-ltb, le-ltb, ltb-false, eqb-false}
 use Rattle.laws.specs.Checks.{firstFailing}
 use Rattle.laws.proofs.Checks.{none-fails}
-use Rattle.laws.proofs.Tests.{or-false}
+use Rattle.laws.proofs.Tests.{or-false, not-one}
 use Rattle.quantities.specs.Row.{cost, gap, noRow}
 use Rattle.quantities.specs.declared.Row.{Row}
 use Rattle.quantities.proofs.Rows.{length-rows, row-at}
@@ -62,11 +62,11 @@ may-tick b e0 =
 pub outcome-taken : (found : Option Refusal) → outcomeOf found ≡ Taken → found ≡ none
 unfolding outcomeOf
 outcome-taken none e = refl
-outcome-taken (some why) e = let z : _≡_ {A = ℕ} 0 1 = cc in absurd (omega arith)
+outcome-taken (some why) e = absurd (not-one cc)
 
 pub outcome-refused : (found : Option Refusal) (why : Refusal) → outcomeOf found ≡ Refused why → found ≡ some why
 unfolding outcomeOf
-outcome-refused none why e = let z : _≡_ {A = ℕ} 0 1 = cc in absurd (omega arith)
+outcome-refused none why e = absurd (not-one cc)
 outcome-refused (some other) why e = cc
 
 -- Why a tick is refused, by the first test that fails.

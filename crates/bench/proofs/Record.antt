@@ -11,7 +11,7 @@ use lib.Dec.{ltb}
 use lib.ListN.{length, getD, drop}
 use lib.Seq.{drop-cons}
 use borrow.Author.Tests.{lt-ltb, le-ltb, ltb-false}
-use Rattle.laws.proofs.Tests.{or-false}
+use Rattle.laws.proofs.Tests.{or-false, not-one}
 use Rattle.quantities.specs.Limits.{rowCapacity}
 use Rattle.quantities.specs.Row.{noRow}
 use Rattle.quantities.specs.Table.{rowsOf}
@@ -50,8 +50,7 @@ sound-fits cores table e = go (decLe (table .count) rowCapacity)
     go (no h) =
         let l = length-rows table in
         let f = list-fault-many-rows cores (rowsOf table) (omega arith) (omega arith) in
-        let z : _≡_ {A = ℕ} 0 1 = cc in
-        absurd (omega arith)
+        absurd (not-one cc)
 
 -- A record that is not broken: its table has no fault, its instant is not past the clock's end, and its rows are in order.
 pub record Whole (b : Bench) : Type 0 where
@@ -62,7 +61,7 @@ pub record Whole (b : Bench) : Type 0 where
 no-fault : (found : Option Fault) → isFault found ≡ false → found ≡ none
 unfolding isFault
 no-fault none e = refl
-no-fault (some fault) e = let z : _≡_ {A = ℕ} 0 1 = cc in absurd (omega arith)
+no-fault (some fault) e = absurd (not-one cc)
 
 pub whole-of : (b : Bench) → broken b ≡ false → Whole b
 unfolding broken

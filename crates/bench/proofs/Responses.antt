@@ -20,7 +20,7 @@ use Rattle.bench.specs.declared.Finish.{Finish}
 use Rattle.bench.specs.Record.{idle, work, rows, stateAt}
 use Rattle.bench.specs.Serving.{units, ends, since, finishOf, finished}
 use Rattle.bench.specs.Step.{served, taken}
-use Rattle.bench.specs.TickRule.{Rising}
+use Rattle.bench.specs.TickRule.{RisingPlaces}
 use Rattle.bench.proofs.Units.{unit-le-one}
 use Rattle.bench.proofs.Serving.{length-units}
 use Rattle.bench.proofs.Balance.{served-le-work}
@@ -155,17 +155,17 @@ last-unit-ends b place low got one =
     rw here at (last-listed (suc (b .now .0)) 1 (served b) (b .states) (place - 1) within (omega arith) (omega arith))
 
 -- The polls are listed in rising place.
-rising-from-lower : (place : ℕ) (polls : List Finish) → Rising (suc place) polls → Rising place polls
+rising-from-lower : (place : ℕ) (polls : List Finish) → RisingPlaces (suc place) polls → RisingPlaces place polls
 rising-from-lower place [] r = tt
 rising-from-lower place (poll ∷ polls) (l, r) = (omega arith, r)
 
-pub rising-finished : (instant place : ℕ) (us : List ℕ) (states : List RowState) → Rising place (finished instant place us states)
+pub rising-finished : (instant place : ℕ) (us : List ℕ) (states : List RowState) → RisingPlaces place (finished instant place us states)
 unfolding finished finishOf
 rising-finished instant place [] states = tt
 rising-finished instant place (u ∷ us) [] = tt
 rising-finished instant place (u ∷ us) (s ∷ states) = go (ends u s) (rising-finished instant (suc place) us states)
   where
-    go : (t : Bool) → Rising (suc place) (finished instant (suc place) us states)
-        → Rising place (elim t [ true ↦ finishOf instant place s ∷ finished instant (suc place) us states | false ↦ finished instant (suc place) us states ])
+    go : (t : Bool) → RisingPlaces (suc place) (finished instant (suc place) us states)
+        → RisingPlaces place (elim t [ true ↦ finishOf instant place s ∷ finished instant (suc place) us states | false ↦ finished instant (suc place) us states ])
     go true r = (omega arith, r)
     go false r = rising-from-lower place (finished instant (suc place) us states) r

@@ -17,6 +17,7 @@ use Rattle.quantities.specs.Checks.{listChecks, listFault, checkedOf}
 use Rattle.quantities.specs.Paper.{Paper, paper, checkedPaper}
 use Rattle.quantities.proofs.Rows.{length-rows}
 use Rattle.laws.proofs.Checks.{none-fails, none-found, first-failing, first-found, retold-first, retold-none}
+use Rattle.laws.proofs.Tests.{not-one}
 use Rattle.quantities.proofs.Sound.{sound-list-means}
 use Rattle.quantities.proofs.Paper.{turned-away}
 use Rattle.bench.specs.declared.Bench.{Bench}
@@ -24,7 +25,7 @@ use Rattle.bench.specs.declared.Refusal.{Refusal}
 use Rattle.bench.specs.declared.Outcome.the-variants.{Taken}
 use Rattle.bench.specs.Record.{idle, rows, rowAt, stateAt, work}
 use Rattle.bench.specs.Refusal.{tooSoon, releaseTests, tickTests}
-use Rattle.bench.specs.Refusal.{refusalPaper, paperOf}
+use Rattle.bench.specs.Refusal.{refusalPaper, outcomePaper}
 use Rattle.bench.specs.Step.{emptyBench, openedAfter, opened, benchOr, openingOf}
 use Rattle.bench.specs.Step.{Step, fresh, started, release, taken, tick}
 use Rattle.bench.specs.History.{Call, releases, ticks, callTests, doCall, after}
@@ -57,7 +58,7 @@ unfolding callChecks
 permitted b call p = none-found (callTests b call) (retold-none refusalPaper (callTests b call) p)
 
 pub call-turned-away : CallTurnedAway
-unfolding callChecks paperOf
+unfolding callChecks outcomePaper
 call-turned-away b call one first =
     let found = first-found (callChecks b call) one first in
     let (why, is-first, on-paper) = retold-first refusalPaper (callTests b call) one found in
@@ -70,18 +71,17 @@ call-taken b (releases place demand) p =
 call-taken b ticks p = ap (λ (s : Step). s .outcome) (tick-taken b (permitted b ticks p))
 
 pub refused-call-has-fault : RefusedCallHasFault
-unfolding paperOf
+unfolding outcomePaper
 refused-call-has-fault b call why e = go (firstFailing (callChecks b call)) refl
   where
     go : (found : Option Paper) → firstFailing (callChecks b call) ≡ found
         → FirstFailing (callChecks b call) (refusalPaper why)
     go none q =
         let taken = call-taken b call (none-fails (callChecks b call) q) in
-        let z : _≡_ {A = ℕ} 0 1 = cc (sym taken ∙ e) in
-        absurd (omega arith)
+        absurd (not-one (cc (sym taken ∙ e)))
     go (some one) q =
         let first = first-failing (callChecks b call) one q in
-        let is : refusalPaper why ≡ one = sym (ap paperOf e) ∙ call-turned-away b call one first .on-paper in
+        let is : refusalPaper why ≡ one = sym (ap outcomePaper e) ∙ call-turned-away b call one first .on-paper in
         rw is first
 
 pub refused-unchanged : RefusedUnchanged
@@ -180,6 +180,6 @@ pub never-broken : NeverBroken
 never-broken = opened-no-29
 
 pub clock-ends : ClockEnds
-unfolding paperOf refusalPaper
+unfolding outcomePaper refusalPaper
 clock-ends b whole e =
     rw (tick-refused b _ (tick-24 b whole e)) (record { on-paper = refl; none-end = refl; same-bench = refl })

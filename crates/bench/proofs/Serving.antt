@@ -17,7 +17,7 @@ use Rattle.quantities.specs.Limits.{rowCapacity}
 use Rattle.bench.specs.Ended.{finishesOf, noted}
 use Rattle.bench.proofs.Ended.{notedAll, noted-all}
 
--- the states after serving `n` rows with so many cores free
+-- the states after serving `n` rows with this many cores free
 abbrev pub servedStates : (free n : ℕ) → List RowState → List RowState
 servedStates free n states = worked (units free (take n states)) states
 

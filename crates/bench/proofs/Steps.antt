@@ -5,6 +5,7 @@ use mathlib.Core.List.{[]}
 use mathlib.Core.Option.{Option, none, some}
 use native.Mathlib.Omega.{arith}
 use Rattle.laws.specs.Checks.{firstFailing}
+use Rattle.laws.proofs.Tests.{not-one}
 use Rattle.bench.specs.declared.Bench.{Bench}
 use Rattle.bench.specs.declared.Finishes.{Finishes}
 use Rattle.bench.specs.declared.Released.{Released}
@@ -77,8 +78,8 @@ refused-same b call why = at (call-case b call)
   where
     at : {one : Call} {step : Step} → CallCase b one step → step .outcome ≡ Refused why → step ≡ refusedStep why b
     at (refused other q) e = let same : other ≡ why = cc in ap (λ w. refusedStep w b) same
-    at (released q may) e = let z : _≡_ {A = ℕ} 0 1 = cc in absurd (omega arith)
-    at (ticked q may) e = let z : _≡_ {A = ℕ} 0 1 = cc in absurd (omega arith)
+    at (released q may) e = absurd (not-one cc)
+    at (ticked q may) e = absurd (not-one cc)
 
 -- No call changes the board.
 pub same-board : (b : Bench) (call : Call)

@@ -17,7 +17,7 @@ use Rattle.bench.specs.declared.RowState.{RowState}
 use Rattle.bench.specs.declared.Bench.{Bench}
 use Rattle.bench.specs.declared.Finish.{Finish}
 use Rattle.bench.specs.Record.{idle, work, rows, stateAt, lastBroken}
-use Rattle.bench.specs.Serving.{unit, units, total, workers, less, worked, since, finishOf}
+use Rattle.bench.specs.Serving.{unit, units, sum, workers, less, worked, since, finishOf}
 use Rattle.bench.specs.Step.{served, moved, taken}
 use Rattle.bench.specs.TickRule.{workersAbove, Gets, PollEnds, rowStates, remaining, TickRule}
 use Rattle.bench.proofs.Rows.{less-none}
@@ -79,7 +79,7 @@ no-unit b place low not = go (decLe 1 (getD (served b) (place - 1) 0))
 -- What the rows have got in all is what no longer remains.
 spent : (free n : ℕ) (states : List RowState)
     → remaining (take n states)
-    ≡ remaining (take n (worked (units free (take n states)) states)) + total (units free (take n states))
+    ≡ remaining (take n (worked (units free (take n states)) states)) + sum (units free (take n states))
 unfolding units worked less
 spent free zero states = refl
 spent free (suc n) [] = refl

@@ -23,7 +23,7 @@ use Rattle.bench.specs.Step.{served, moved, taken, tickedOf}
 use Rattle.bench.proofs.Ended.{notedAll, noted-count}
 use Rattle.bench.proofs.Serving.{servedStates, endedPolls, served-turn, noted-turn, served-end, noted-end, ended-all}
 
--- Before the turn at index i: with so many cores free and these polls noted, serving the rest makes the whole tick.
+-- Before the turn at index i: with this many cores free and these polls noted, serving the rest makes the whole tick.
 pub record Serves (b : Bench) (states : List RowState) (free : ℕ) (f : Finishes) (i : ℕ) : Type 0 where
   pub within : i ≤ b .table .count
   pub long : length states ≡ rowCapacity

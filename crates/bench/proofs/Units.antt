@@ -6,7 +6,7 @@ use mathlib.Core.List.{List, [], _∷_}
 use lib.ListN.{length, getD, take}
 use Rattle.bench.specs.declared.RowState.{RowState}
 use Rattle.bench.specs.Record.{idle, work}
-use Rattle.bench.specs.Serving.{unit, units, total, workers, less, worked}
+use Rattle.bench.specs.Serving.{unit, units, sum, workers, less, worked}
 use Rattle.bench.proofs.Rows.{less-none}
 
 -- What is to know of a row's unit u when m cores are free and l is its work.
@@ -35,7 +35,7 @@ unit-low free zero (s ∷ states) h = omega arith
 unit-low free (suc i) (s ∷ states) h = unit-low (free - unit free (work s)) i states (omega arith)
 
 -- as many units are given as there are rows with work, up to the cores
-pub units-total : (free : ℕ) (states : List RowState) → total (units free states) ≡ min free (workers states)
+pub units-total : (free : ℕ) (states : List RowState) → sum (units free states) ≡ min free (workers states)
 unfolding units workers
 units-total free [] = omega arith
 units-total free (s ∷ states) =

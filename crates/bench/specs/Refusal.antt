@@ -59,6 +59,6 @@ refusalPaper ClockEnd = paper 24 0
 refusalPaper BrokenRecord = paper 29 0
 
 -- an outcome on paper
-unfoldable pub paperOf : Outcome → Paper
-paperOf Taken = noRefusal
-paperOf (Refused why) = refusalPaper why
+unfoldable pub outcomePaper : Outcome → Paper
+outcomePaper Taken = noRefusal
+outcomePaper (Refused why) = refusalPaper why

@@ -22,7 +22,7 @@ use Rattle.bench.specs.declared.Refusal.{Refusal}
 use Rattle.bench.specs.declared.Refusal.the-variants.{BrokenRecord}
 use Rattle.bench.specs.declared.Outcome.the-variants.{Taken, Refused}
 use Rattle.bench.specs.Record.{idle, rows, rowAt, stateAt, work, broken}
-use Rattle.bench.specs.Refusal.{tooSoon, refusalPaper, paperOf}
+use Rattle.bench.specs.Refusal.{tooSoon, refusalPaper, outcomePaper}
 use Rattle.bench.specs.Step.{emptyBench, noBench, opened, openingOf, Step, fresh, release, tick}
 use Rattle.bench.specs.History.{Call, releases, ticks, callTests, doCall, after, accepted, servedIn}
 use Rattle.bench.specs.TickRule.{TickRule}
@@ -54,7 +54,7 @@ TickChecks =
 
 -- A call on a bench is turned away with a number and a place: no poll ends, and nothing changes on the bench.
 pub record TurnedAway (b : Bench) (number place : ℕ) (step : Step) : Type 0 where
-  pub on-paper : paperOf (step .outcome) ≡ paper number place
+  pub on-paper : outcomePaper (step .outcome) ≡ paper number place
   pub none-end : step .finishes ≡ []
   pub same-bench : step .bench ≡ b
 

@@ -15,21 +15,21 @@ unfoldable pub workers : List RowState → ℕ
 workers [] = 0
 workers (state ∷ states) = min 1 (work state) + workers states
 
--- the units that a row with this much work gets when so many cores are free: one, or none
+-- the units that a row with this much work gets when this many cores are free: one, or none
 unfoldable pub unit : (free left : ℕ) → ℕ
 unit free left = min left (min 1 free)
 
--- the units that the rows get, from the top, when so many cores are free
+-- the units that the rows get, from the top, when this many cores are free
 unfoldable pub units : (free : ℕ) → List RowState → List ℕ
 units free [] = []
 units free (state ∷ states) = unit free (work state) ∷ units (free - unit free (work state)) states
 
 -- the sum of units
-abbrev pub total : List ℕ → ℕ
-total [] = 0
-total (u ∷ us) = u + total us
+abbrev pub sum : List ℕ → ℕ
+sum [] = 0
+sum (u ∷ us) = u + sum us
 
--- a row's state when it has got so many units
+-- a row's state when it has got this many units
 unfoldable pub less : ℕ → RowState → RowState
 less u state = record { last = state .last; demand = state .demand; left = record { 0 = work state - u } }
 
@@ -39,7 +39,7 @@ worked [] states = states
 worked (u ∷ us) [] = []
 worked (u ∷ us) (state ∷ states) = less u state ∷ worked us states
 
--- whether a row that got so many units has ended its poll: it got one, and nothing remains
+-- whether a row that got this many units has ended its poll: it got one, and nothing remains
 unfoldable pub ends : ℕ → RowState → Bool
 ends u state = ltb 0 u && eqb (work state - u) 0
 

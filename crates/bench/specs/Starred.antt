@@ -42,7 +42,7 @@ history =
     ∷ ticks
     ∷ []
 
--- a poll of the row at a place that ended so many ticks after its release
+-- a poll of the row at a place that ended this many ticks after its release
 abbrev ended : (place response : ℕ) → Finish
 ended place response = record { place = place; response = record { 0 = response } }
 

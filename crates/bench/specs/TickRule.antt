@@ -12,7 +12,7 @@ use Rattle.bench.specs.declared.Bench.{Bench}
 use Rattle.bench.specs.declared.Finish.{Finish}
 use Rattle.bench.specs.declared.Outcome.the-variants.{Taken}
 use Rattle.bench.specs.Record.{work, rows, stateAt}
-use Rattle.bench.specs.Serving.{total, workers, less}
+use Rattle.bench.specs.Serving.{sum, workers, less}
 use Rattle.bench.specs.Step.{Step}
 
 -- how many rows above a place have work remaining
@@ -36,16 +36,16 @@ pub record PollEnds (b : Bench) (poll : Finish) : Type 0 where
   pub response : poll .response .0 ≡ suc (b .now .0) - release .0
 
 -- polls in rising place, from a place on
-abbrev pub Rising : ℕ → List Finish → Type 0
-Rising place [] = Unit {0}
-Rising place (poll ∷ polls) = (place ≤ poll .place) × Rising (suc (poll .place)) polls
+abbrev pub RisingPlaces : ℕ → List Finish → Type 0
+RisingPlaces place [] = Unit {0}
+RisingPlaces place (poll ∷ polls) = (place ≤ poll .place) × RisingPlaces (suc (poll .place)) polls
 
 -- the states of the table's rows, and the work that remains in all
 abbrev pub rowStates : Bench → List RowState
 rowStates b = take (length (rows b)) (b .states)
 
 abbrev pub remaining : List RowState → ℕ
-remaining states = total (map work states)
+remaining states = sum (map work states)
 
 -- The rule: among rows with work remaining, the highest min(M, how many) get one unit each; the instant grows
 -- by one; the answer lists the polls that ended and no other, in rising place. All else stays.
@@ -60,4 +60,4 @@ pub record TickRule (b : Bench) (step : Step) : Type 0 where
       remaining (rowStates b) ≡ remaining (rowStates (step .bench)) + min (b .cores) (workers (rowStates b))
   pub listed : (poll : Finish) → PollEnds b poll → Member poll (step .finishes)
   pub no-other : Each (PollEnds b) (step .finishes)
-  pub rising : Rising 1 (step .finishes)
+  pub rising : RisingPlaces 1 (step .finishes)

@@ -31,7 +31,7 @@ fn since(instant: Instant, last: Last) -> Ticks
     }
 }
 
-// One row's part in a tick when so many cores are free.
+// One row's part in a tick when this many cores are free.
 fn serve_row(state: RowState, free: u32) -> Turn
     ensures { λ r. ⌜ r ≡ turnOf free state ⌝ }
 {

@@ -20,7 +20,7 @@ RoomOf1024 = inputRoom ≡ 1024
 abbrev pub RoomDecides : Type 0
 RoomDecides = (sheet : List ℕ) → textOf (take inputRoom sheet) ≡ textOf sheet
 
--- so many bytes of the room were read, or a read failed
+-- this many bytes of the room were read, or a read failed
 abbrev pub Within : Input → List ℕ → Type 0
 Within (Bytes n) room = Counts n room
 Within Failed room = Unit {0}

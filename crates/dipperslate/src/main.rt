@@ -9,7 +9,7 @@ ghost use Rattle.dipperslate.specs.Reading.{inputRoom, Within};
 use libc::STDIN_FILENO;
 use libc::STDOUT_FILENO;
 
-// What was read: so many bytes, or nothing, since a read failed.
+// What was read: this many bytes, or nothing, since a read failed.
 enum Input {
     Bytes(usize),
     Failed,

@@ -5,8 +5,8 @@ ghost use lib.ListN.{length};
 ghost use Rattle.windows.specs.Answer.{judgedInto, answerPaper};
 ghost use Rattle.quantities.specs.Limits.{rowCapacity};
 ghost use Rattle.quantities.specs.Lengths.{numbers};
-ghost use Rattle.lentrows.specs.Loaded.{tableOf};
-ghost use Rattle.lentrows.specs.Lent.{firstOf};
+ghost use Rattle.lentrows.specs.Loaded.{loadedTable};
+ghost use Rattle.lentrows.specs.Lent.{frontReplaced};
 ghost use Rattle.exports.specs.Exported.{rowsFrom, placeLimit, coded, codeOf, FitsCode, Exported};
 use lentrows::Told;
 use quantities::Fault;
@@ -21,7 +21,7 @@ const PLACE_LIMIT: u64 = 4_294_967_296;
 // The table of a list of triples: C, D and T of each row. It does in place what Table::with_row does, since a table
 // that is handed on by value is copied, and the copies would take longer than the search of a short list.
 fn load(rows: &[[u64; 3]]) -> Table
-    ensures { λ r. ⌜ r ≡ tableOf (rowsFrom (now (rows .entry))) ⌝ }
+    ensures { λ r. ⌜ r ≡ loadedTable (rowsFrom (now (rows .entry))) ⌝ }
 {
     let mut table = Table::empty();
     let mut i: usize = 0;
@@ -70,7 +70,7 @@ fn code_of(answer: Answer) -> u64
 // Writes the bounds told, as numbers of ticks, into the first entries of a lent list.
 fn write_bounds(told: Told, bounds: &mut [u64])
     requires { ⌜ (told .shown ≤ rowCapacity) × (told .shown ≤ length (now bounds)) ⌝ }
-    ensures { λ _. ⌜ now (bounds .exit) ≡ firstOf (told .shown) (numbers (told .bounds)) (now (bounds .entry)) ⌝ }
+    ensures { λ _. ⌜ now (bounds .exit) ≡ frontReplaced (told .shown) (numbers (told .bounds)) (now (bounds .entry)) ⌝ }
 {
     let found = told.bounds;
     let mut i: usize = 0;

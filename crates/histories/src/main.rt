@@ -58,7 +58,7 @@ fn read_row() -> ReadRow {
     ReadRow::Whole(row)
 }
 
-// Reads so many rows.
+// Reads this many rows.
 fn read_table(rows: u8) -> ReadTable {
     let mut table = Table::empty();
     let mut left = rows;

@@ -7,6 +7,7 @@ use mathlib.Core.List.{List, [], _∷_, _++_, map}
 use mathlib.Core.Option.{Option, none, some}
 use Rattle.laws.specs.Each.{Each}
 use Rattle.laws.specs.Checks.{Check, checkFor, retold, firstFailing, NoneFails, FirstFailing}
+use Rattle.laws.proofs.Tests.{not-one}
 
 -- The first check decides where it fails, else those after it do.
 module _ {A : Type 0} (one : Check A) (rest : List (Check A)) where
@@ -25,14 +26,14 @@ none-fails (one ∷ rest) e = go (one .fails) refl (none-fails rest)
   where
     go : (t : Bool) → one .fails ≡ t → (firstFailing rest ≡ none → NoneFails rest)
         → (one .fails ≡ false) × NoneFails rest
-    go true q later = let z : _≡_ {A = ℕ} 0 1 = cc (first-fails one rest q) in absurd (omega arith)
+    go true q later = absurd (not-one (cc (first-fails one rest q)))
     go false q later = (q, later (rw (first-passes one rest q) at e))
 
 -- what firstFailing tells is what the first that fails tells
 pub first-failing : {A : Type 0} (checks : List (Check A)) (told : A) → firstFailing checks ≡ some told
     → FirstFailing checks told
 unfolding firstFailing
-first-failing [] told e = let z : _≡_ {A = ℕ} 0 1 = cc in absurd (omega arith)
+first-failing [] told e = absurd (not-one cc)
 first-failing {A} (head ∷ rest) told e = go (head .told) (head .fails) e (first-failing rest told)
   where
     go : (own : A) (t : Bool) → firstFailing (checkFor own t ∷ rest) ≡ some told
@@ -77,7 +78,7 @@ module _ {A : Type 0} where
   pub found-in-first : (a b : List (Check A)) (told : A) → firstFailing a ≡ some told
       → firstFailing (a ++ b) ≡ some told
   unfolding firstFailing
-  found-in-first [] b told e = let z : _≡_ {A = ℕ} 0 1 = cc in absurd (omega arith)
+  found-in-first [] b told e = absurd (not-one cc)
   found-in-first (one ∷ a) b told e = go (one .told) (one .fails) e (found-in-first a b told)
     where
       go : (own : A) (t : Bool) → firstFailing (checkFor own t ∷ a) ≡ some told
@@ -94,14 +95,14 @@ module _ {A : Type 0} where
       go : (own : A) (t : Bool) → firstFailing (checkFor own t ∷ a) ≡ none
           → (firstFailing a ≡ none → firstFailing (a ++ b) ≡ firstFailing b)
           → firstFailing (checkFor own t ∷ a ++ b) ≡ firstFailing b
-      go own true e later = let z : _≡_ {A = ℕ} 0 1 = cc in absurd (omega arith)
+      go own true e later = absurd (not-one cc)
       go own false e later = later e
 
 -- What holds of all that a list of checks can tell holds of what the first that fails tells.
 pub told-has : {A : Type 0} (P : A → Type 0) (told : A) (checks : List (Check A))
     → Each (λ one. P (one .told)) checks → firstFailing checks ≡ some told → P told
 unfolding firstFailing
-told-has P told [] each e = let z : _≡_ {A = ℕ} 0 1 = cc in absurd (omega arith)
+told-has P told [] each e = absurd (not-one cc)
 told-has {A} P told (one ∷ rest) (here, below) e = go (one .told) (one .fails) here e (told-has P told rest below)
   where
     go : (own : A) (t : Bool) → P own → firstFailing (checkFor own t ∷ rest) ≡ some told
@@ -114,7 +115,7 @@ module _ {A B : Type 0} (words : A → B) where
   pub retold-first : (checks : List (Check A)) (told : B) → firstFailing (map (retold words) checks) ≡ some told
       → (own : A) × (firstFailing checks ≡ some own) × (words own ≡ told)
   unfolding firstFailing
-  retold-first [] told e = let z : _≡_ {A = ℕ} 0 1 = cc in absurd (omega arith)
+  retold-first [] told e = absurd (not-one cc)
   retold-first (one ∷ rest) told e = go (one .told) (one .fails) e (retold-first rest told)
     where
       go : (own : A) (t : Bool) → firstFailing (map (retold words) (checkFor own t ∷ rest)) ≡ some told

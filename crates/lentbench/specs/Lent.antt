@@ -23,7 +23,7 @@ pub record LentTick (step : Step) (moved : Bench) (answer : TickAnswer) : Type 0
   pub leaves : moved ≡ step .bench
   pub answers : answer ≡ tickAnswerOf step
 
--- the history of so many ticks
+-- the history of this many ticks
 unfoldable pub ticksFor : ℕ → List Call
 ticksFor zero = []
 ticksFor (suc n) = ticks ∷ ticksFor n

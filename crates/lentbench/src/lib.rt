@@ -35,7 +35,7 @@ pub fn tick(b: &mut Bench) -> TickAnswer
     }
 }
 
-// The bench runs for so many ticks: the caller's loop lends it to one tick after another.
+// The bench runs for this many ticks: the caller's loop lends it to one tick after another.
 pub fn run(b: &mut Bench, ticks: Ticks)
     ensures { λ _. ⌜ now (b .exit) ≡ after (now (b .entry)) (ticksFor (ticks .0)) ⌝ }
 {

@@ -70,7 +70,7 @@ fn lend_tick(bench: Bench) -> Ticked
     }
 }
 
-// Lends a local with the bench to a run of so many ticks, and hands the bench on as it comes back.
+// Lends a local with the bench to a run of this many ticks, and hands the bench on as it comes back.
 fn lend_run(bench: Bench, ticks: Ticks) -> Bench
     ensures { λ r. ⌜ r ≡ after bench (ticksFor (ticks .0)) ⌝ }
 {

@@ -29,7 +29,7 @@ fn wide(place: usize) -> u64 {
     place as u64
 }
 
-// Puts a number into so many bytes from `at` on, from the last of them to the first.
+// Puts a number into this many bytes from `at` on, from the last of them to the first.
 fn put(out: &mut [u8], at: usize, size: usize, number: u64)
     requires { ⌜ at + size ≤ length (now out) ⌝ }
 {

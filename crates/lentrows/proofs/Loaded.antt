@@ -18,7 +18,7 @@ use Rattle.quantities.proofs.Checks.{list-fault-many-rows}
 use Rattle.quantities.proofs.Rows.{length-rows, with-row-full, with-row-count, with-row-length, with-row-rows}
 use Rattle.windows.specs.Answer.{judgedInto}
 use Rattle.windows.specs.Judgement.{rowOfIndex}
-use Rattle.lentrows.specs.Loaded.{loaded, tableOf}
+use Rattle.lentrows.specs.Loaded.{loaded, loadedTable}
 use Rattle.windows.proofs.Into.{into-faulty}
 
 -- A table with room for 32 rows holds the first n of a list.
@@ -67,26 +67,26 @@ module _ (rows : List Row) where
       full (no l) past = omega (arith, past (omega arith) (omega arith))
 
   -- a list that fits is the rows of its table
-  pub rows-loaded : length rows ≤ rowCapacity → rowsOf (tableOf rows) ≡ rows
+  pub rows-loaded : length rows ≤ rowCapacity → rowsOf (loadedTable rows) ≡ rows
   rows-loaded few = holds-loaded (length rows) few (omega arith) .kept ∙ take-length rows
 
   -- too many rows are fault 1, and so is the table that they make
   many-faulty : (cores : ℕ) → rowCapacity < length rows
-      → (listFault cores rows ≡ some (WholeList 1)) × (listFault cores (rowsOf (tableOf rows)) ≡ some (WholeList 1))
+      → (listFault cores rows ≡ some (WholeList 1)) × (listFault cores (rowsOf (loadedTable rows)) ≡ some (WholeList 1))
   many-faulty cores many =
-      let counted : length (rowsOf (tableOf rows)) ≡ suc rowCapacity = length-rows (tableOf rows) ∙ full-loaded (length rows) many (omega arith) in (
+      let counted : length (rowsOf (loadedTable rows)) ≡ suc rowCapacity = length-rows (loadedTable rows) ∙ full-loaded (length rows) many (omega arith) in (
         list-fault-many-rows cores rows (λ e. omega arith) many,
-        list-fault-many-rows cores (rowsOf (tableOf rows)) (λ e. omega arith) (omega arith),
+        list-fault-many-rows cores (rowsOf (loadedTable rows)) (λ e. omega arith) (omega arith),
       )
 
   -- The table that a list makes has the list's answer, for every list.
-  pub into-loaded : (cores entries : ℕ) → judgedInto cores entries (rowsOf (tableOf rows)) ≡ judgedInto cores entries rows
+  pub into-loaded : (cores entries : ℕ) → judgedInto cores entries (rowsOf (loadedTable rows)) ≡ judgedInto cores entries rows
   into-loaded cores entries = go (decLe (length rows) rowCapacity)
     where
       go : Dec (length rows ≤ rowCapacity)
-          → judgedInto cores entries (rowsOf (tableOf rows)) ≡ judgedInto cores entries rows
+          → judgedInto cores entries (rowsOf (loadedTable rows)) ≡ judgedInto cores entries rows
       go (yes few) = ap (judgedInto cores entries) (rows-loaded few)
       go (no l) =
           let faulty = many-faulty cores (omega arith) in
-          into-faulty cores entries (rowsOf (tableOf rows)) (WholeList 1) (faulty .1)
+          into-faulty cores entries (rowsOf (loadedTable rows)) (WholeList 1) (faulty .1)
           ∙ sym (into-faulty cores entries rows (WholeList 1) (faulty .0))

@@ -12,19 +12,19 @@ use Rattle.quantities.specs.declared.Row.{Row}
 use Rattle.quantities.specs.declared.Ticks.{Ticks}
 use Rattle.quantities.proofs.Lengths.{found-are}
 use Rattle.windows.specs.Answer.{Judged, judgedInto, boundsAfter}
-use Rattle.lentrows.specs.Lent.{LentAnalysis, firstOf, toldOf}
+use Rattle.lentrows.specs.Lent.{LentAnalysis, frontReplaced, toldOf}
 use Rattle.lentrows.specs.declared.Told.{Told}
 use Rattle.lentrows.proofs.Lent.{bounds-fit}
 
 module _ {A : Type 0} where
   -- one entry more
   pub first-next : (i : ℕ) (found before : List A) (none : A) → i < length found → i < length before
-      → set (firstOf i found before) i (getD found i none) ≡ firstOf (suc i) found before
+      → set (frontReplaced i found before) i (getD found i none) ≡ frontReplaced (suc i) found before
   first-next i found before none some room = simp zero-add at (paste-suc before 0 found i none (omega arith) some)
 
   -- the list keeps its length
   pub first-long : (i : ℕ) (found before : List A) → i ≤ length found → i ≤ length before
-      → length (firstOf i found before) ≡ length before
+      → length (frontReplaced i found before) ≡ length before
   first-long i found before some room =
       omega (arith, length-append (take i found) (drop i before), length-take-le i found some, length-drop i before)
 
@@ -39,7 +39,7 @@ numbers-take zero found later = refl
 numbers-take (suc n) [] later = refl
 numbers-take (suc n) (f ∷ found) later = ap (λ (zs : List ℕ). f .0 ∷ zs) (numbers-take n found later)
 
-numbers-first : (n : ℕ) (found before : List Ticks) → numbers (firstOf n found before) ≡ firstOf n (numbers found) (numbers before)
+numbers-first : (n : ℕ) (found before : List Ticks) → numbers (frontReplaced n found before) ≡ frontReplaced n (numbers found) (numbers before)
 numbers-first n found before =
     numbers-take n found (drop n before) ∙ ap (λ (zs : List ℕ). take n (numbers found) ++ zs) (numbers-drop n before)
 
@@ -51,13 +51,13 @@ told-fits M entries rows told e = rw e (bounds-fit M entries rows)
 
 -- the bounds of what is judged, as numbers in the first entries, are what is to be written
 pub told-written : (j : Judged) (told : Told) → told ≡ toldOf j → (before : List ℕ)
-    → firstOf (told .shown) (numbers (told .bounds)) before ≡ boundsAfter j before
+    → frontReplaced (told .shown) (numbers (told .bounds)) before ≡ boundsAfter j before
 unfolding toldOf boundsAfter
 told-written j told e before = rw (e, found-are (j .bounds)) refl
 
 -- what is told is the answer, and a list with the bounds told in its first entries is left as it says
 pub lent-analysis : (j : Judged) (told : Told) → told ≡ toldOf j → (before after : List Ticks)
-    → after ≡ firstOf (told .shown) (told .bounds) before
+    → after ≡ frontReplaced (told .shown) (told .bounds) before
     → LentAnalysis j (numbers before) (numbers after) (told .answer)
 unfolding toldOf
 lent-analysis j told e before after f =

@@ -19,14 +19,14 @@ pub record LentAnalysis (judged : Judged) (before after : List ℕ) (answer : An
   pub leaves : after ≡ boundsAfter judged before
 
 -- the first n of these bounds, then the entries that the list had
-abbrev pub firstOf : {A : Type 0} → ℕ → List A → List A → List A
-firstOf n found before = take n found ++ drop n before
+abbrev pub frontReplaced : {A : Type 0} → ℕ → List A → List A → List A
+frontReplaced n found before = take n found ++ drop n before
 
 -- what the caller is told of what is judged: the bounds in an array, and how many there are
 unfoldable pub toldOf : Judged → Told
 toldOf j = record { answer = j .answer; bounds = inArray (j .bounds); shown = length (j .bounds) }
 
--- how many rows of so many have a bound where this is the answer
+-- how many rows of this many have a bound where this is the answer
 unfoldable pub shownBy : Answer → (count : ℕ) → ℕ
 shownBy Shown count = count
 shownBy (NotShown number place) count = place - 1

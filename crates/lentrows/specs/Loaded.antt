@@ -13,5 +13,5 @@ loaded zero rows = emptyTable
 loaded (suc k) rows = withRow (loaded k rows) (rowOfIndex rows k)
 
 -- the table of all rows of the list
-abbrev pub tableOf : List Row → Table
-tableOf rows = loaded (length rows) rows
+abbrev pub loadedTable : List Row → Table
+loadedTable rows = loaded (length rows) rows

@@ -10,7 +10,7 @@ ghost use Rattle.windows.specs.Answer.{judgedInto};
 ghost use Rattle.windows.specs.declared.Answer.the-variants.{Refused};
 ghost use Rattle.windows.specs.Judgement.{rowOfIndex};
 ghost use Rattle.lentrows.specs.Loaded.{loaded};
-ghost use Rattle.lentrows.specs.Lent.{LentAnalysis, firstOf, shownBy, toldOf};
+ghost use Rattle.lentrows.specs.Lent.{LentAnalysis, frontReplaced, shownBy, toldOf};
 use quantities::Checked;
 use quantities::Fault;
 use quantities::Row;
@@ -48,7 +48,7 @@ fn load(rows: &[Row], n: usize) -> Table
     table
 }
 
-// How many rows of so many have a bound where this is the answer.
+// How many rows of this many have a bound where this is the answer.
 fn shown_by(answer: Answer, count: usize) -> usize
     ensures { λ r. ⌜ r ≡ shownBy answer count ⌝ }
 {
@@ -77,7 +77,7 @@ fn refused(fault: Fault) -> Told
     }
 }
 
-// What is told of a table where the bounds list has so many entries: checks 1 to 6, then 7, then the search.
+// What is told of a table where the bounds list has this many entries: checks 1 to 6, then 7, then the search.
 pub fn answer_for(cores: u32, table: Table, entries: usize) -> Told
     ensures { λ r. ⌜ r ≡ toldOf (judgedInto cores entries (rowsOf table)) ⌝ }
 {
@@ -113,7 +113,7 @@ fn bound_at(told: Told, i: usize) -> Ticks
 // Writes the bounds told into the first entries of a lent list.
 fn write_bounds(told: Told, bounds: &mut [Ticks])
     requires { ⌜ (told .shown ≤ rowCapacity) × (told .shown ≤ length (now bounds)) ⌝ }
-    ensures { λ _. ⌜ now (bounds .exit) ≡ firstOf (told .shown) (told .bounds) (now (bounds .entry)) ⌝ }
+    ensures { λ _. ⌜ now (bounds .exit) ≡ frontReplaced (told .shown) (told .bounds) (now (bounds .entry)) ⌝ }
 {
     let mut i: usize = 0;
     while i < told.shown {

@@ -1,4 +1,2 @@
--- Laws of numbers in decimal, of bytes put into a buffer, and of the lines.
-pub mod Decimal
-pub mod Buffer
+-- Laws of the lines.
 pub mod Lines

@@ -1,5 +1,2 @@
--- The lines of the program's text: words and numbers as bytes, a lent buffer, the lines.
-pub mod Words
-pub mod Decimal
-pub mod Buffer
+-- The lines of the program's text.
 pub mod Lines

@@ -7,8 +7,8 @@ use Rattle.quantities.specs.Row.{deadline}
 use Rattle.quantities.specs.declared.Micros.{Micros}
 use Rattle.records.specs.declared.RowFields.{RowFields}
 use Rattle.sheet.specs.Entries.{rowIn, noEntry}
-use Rattle.lines.specs.Words.{ascii}
-use Rattle.lines.specs.Decimal.{decimal}
+use Rattle.printing.specs.Words.{ascii}
+use Rattle.printing.specs.Decimal.{decimal}
 
 -- a word, and a number in decimal after it
 abbrev pub worded : String → ℕ → List ℕ
@@ -22,7 +22,7 @@ firstLine cores tick rows = worded "cores " cores ++ worded " tick " tick ++ wor
 unfoldable pub rowLine : (place label bound d : ℕ) → List ℕ
 rowLine place label bound d = decimal place ++ worded " " label ++ worded " " bound ++ worded " " d ++ ascii "\n"
 
--- the lines of the first so many rows, in ticks of a length, with their bounds; the row with index k stands at place
+-- the lines of the first rows, this many, in ticks of a length, with their bounds; the row with index k stands at place
 -- k + 1
 unfoldable pub rowLines : Micros → List RowFields → List ℕ → ℕ → List ℕ
 rowLines tick entries bounds zero = []

@@ -1,19 +1,17 @@
 //! The lines of the program's text, put into a lent buffer; each function answers the next place.
-use put::put_number;
-use put::put_word;
-use put::put_worded;
+use printing::put_number;
+use printing::put_word;
+use printing::put_worded;
 use quantities::Micros;
 use quantities::Table;
 use quantities::Ticks;
 use sheet::Sheet;
 ghost use Prim.Native.Nat.{_+_, _*_, _≤_};
 ghost use lib.ListN.{length};
-ghost use Rattle.lines.specs.Buffer.{Puts};
+ghost use Rattle.printing.specs.Buffer.{Puts};
 ghost use Rattle.lines.specs.Lines.{firstLine, rowLine, rowLines, shownLine, notShownLine, refusedLine, lineRoom};
 ghost use Rattle.quantities.specs.Limits.{rowCapacity};
 ghost use Rattle.quantities.specs.Lengths.{numbers};
-
-mod put;
 
 // The first line: cores, tick length, number of rows.
 pub fn put_first_line(out: &mut [u8], at: usize, cores: u32, tick: Micros, rows: usize) -> usize
@@ -78,7 +76,7 @@ pub fn put_refused_line(out: &mut [u8], at: usize, number: u32, place: usize) ->
     put_word(out, next, b"\n")
 }
 
-// The lines of the first so many rows of a sheet, with their bounds.
+// The lines of the first rows, this many, of a sheet, with their bounds.
 pub fn put_row_lines(
     out: &mut [u8],
     at: usize,

@@ -35,8 +35,8 @@ use Rattle.lentbench.proofs.release as lent-release
 use Rattle.lentbench.proofs.tick as lent-tick
 use Rattle.lentbench.proofs.run as lent-run
 use Rattle.lentrows.proofs.analyse_list as lent-list
-use Rattle.promises.proofs.Lent.{of-lengths, lent-turned-away, lent-judged}
-use Rattle.promises.specs.Lent.{LentOutcome}
+use Rattle.rowpages.proofs.Lent.{of-lengths, lent-turned-away, lent-judged}
+use Rattle.rowpages.specs.Lent.{LentOutcome}
 use Rattle.promised.specs.Promised.{ReleaseAnswer, TickAnswer, RunsFor, over, one-more}
 use Rattle.promised.proofs.Promised.{release-answer, tick-answer}
 

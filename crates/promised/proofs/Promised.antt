@@ -8,6 +8,7 @@ use mathlib.Core.List.{List, [], _∷_, _++_}
 use mathlib.Core.Option.{none}
 use lib.ListN.{length, drop}
 use Rattle.laws.specs.Checks.{firstFailing}
+use Rattle.laws.proofs.Tests.{not-one}
 use Rattle.quantities.specs.declared.Row.{Row}
 use Rattle.quantities.specs.declared.Table.{Table}
 use Rattle.quantities.specs.declared.Checked.{Checked}
@@ -36,7 +37,7 @@ use Rattle.bench.specs.declared.Outcome.{Outcome as CallOutcome}
 use Rattle.bench.specs.declared.Opening.{Opening}
 use Rattle.bench.specs.declared.Released.{Released}
 use Rattle.bench.specs.declared.Ticked.{Ticked}
-use Rattle.bench.specs.Refusal.{paperOf as benchPaper, releaseTests, tickTests, outcomeOf}
+use Rattle.bench.specs.Refusal.{outcomePaper, releaseTests, tickTests, outcomeOf}
 use Rattle.bench.specs.Record.{broken}
 use Rattle.bench.specs.Ended.{finishesOf}
 use Rattle.bench.specs.Step.{openingOf, release, tick, releasedOf, tickedOf}
@@ -44,21 +45,21 @@ use Rattle.bench.specs.History.{releases, ticks, doCall, callOf}
 use Rattle.bench.proofs.Steps.{release-no-polls}
 use Rattle.replay.specs.declared.Replayed.{Replayed}
 use Rattle.replay.specs.Replay.{Replay, replay}
-use Rattle.promises.specs.Lists.{faultAt}
-use Rattle.promises.specs.Lent.{InEntries}
-use Rattle.promises.specs.Calls.{releaseOrder, tickOrder, ListsPolls}
-use Rattle.promises.proofs.Sheets.{sheets-read, sheet-turned-away}
+use Rattle.rowpages.specs.Lists.{faultAt}
+use Rattle.rowpages.specs.Lent.{InEntries}
+use Rattle.benchpages.specs.Calls.{releaseOrder, tickOrder, ListsPolls}
+use Rattle.sheetpages.proofs.Sheets.{sheets-read, sheet-turned-away}
 use Rattle.promises.proofs.Tool.{goes-the-whole-way, text-at-the-front}
-use Rattle.promises.proofs.Lists.{lent-order, fault-of-first, sound-in-range, faulty-list-turned-away}
-use Rattle.promises.proofs.Windows.{judged-right}
-use Rattle.promises.proofs.SheetRecords.{records-come-back, parts-told}
-use Rattle.promises.proofs.Lent.{by-value, told-for, lent-turned-away, lent-judged, callers-in-c}
-use Rattle.promises.proofs.Tables.{table-made, table-checked}
-use Rattle.promises.proofs.Broken.{broken-exactly}
-use Rattle.promises.proofs.Calls.{call-turned-away, call-taken, gives-29}
-use Rattle.promises.proofs.Openings.{opening-refused, opening-taken, ended-listed, calls-answered}
-use Rattle.promises.proofs.Moves.{release-starts, tick-serves}
-use Rattle.promises.proofs.CallBytes.{replay-answered, replay-no-room, replay-not-opened}
+use Rattle.rowpages.proofs.Lists.{lent-order, fault-of-first, sound-in-range, faulty-list-turned-away}
+use Rattle.rowpages.proofs.Windows.{judged-right}
+use Rattle.sheetpages.proofs.SheetRecords.{records-come-back, parts-told}
+use Rattle.rowpages.proofs.Lent.{by-value, told-for, lent-turned-away, lent-judged, callers-in-c}
+use Rattle.rowpages.proofs.Tables.{table-made, table-checked}
+use Rattle.benchpages.proofs.Broken.{broken-exactly}
+use Rattle.benchpages.proofs.Calls.{call-turned-away, call-taken, gives-29}
+use Rattle.benchpages.proofs.Openings.{opening-refused, opening-taken, ended-listed, calls-answered}
+use Rattle.benchpages.proofs.Moves.{release-starts, tick-serves}
+use Rattle.benchpages.proofs.CallBytes.{replay-answered, replay-no-room, replay-not-opened}
 use Rattle.promised.specs.Promised.{SheetAnswer, TextAnswer, AnalysisAnswer, TableAnswer}
 use Rattle.promised.specs.Promised.{RecordAnswer, sizeIs, EndAnswer, ToldAnswer}
 use Rattle.promised.specs.Promised.{NoRows, OneRowMore, OpeningAnswer, ReleaseAnswer, TickAnswer}
@@ -145,11 +146,11 @@ size-answer (kind ∷ rest) r is = is
 
 end-answer-of : (found : Record) → EndAnswer found (isEnd found)
 unfolding isEnd
-end-answer-of Missing = ((λ e. let z : _≡_ {A = ℕ} 0 1 = cc in absurd (omega arith)), λ (c, e). cc)
-end-answer-of Unknown = ((λ e. let z : _≡_ {A = ℕ} 0 1 = cc in absurd (omega arith)), λ (c, e). cc)
-end-answer-of (Cut kind) = ((λ e. let z : _≡_ {A = ℕ} 0 1 = cc in absurd (omega arith)), λ (c, e). cc)
-end-answer-of (Board cores tick) = ((λ e. let z : _≡_ {A = ℕ} 0 1 = cc in absurd (omega arith)), λ (c, e). cc)
-end-answer-of (RowOf fields) = ((λ e. let z : _≡_ {A = ℕ} 0 1 = cc in absurd (omega arith)), λ (c, e). cc)
+end-answer-of Missing = ((λ e. absurd (not-one cc)), λ (c, e). cc)
+end-answer-of Unknown = ((λ e. absurd (not-one cc)), λ (c, e). cc)
+end-answer-of (Cut kind) = ((λ e. absurd (not-one cc)), λ (c, e). cc)
+end-answer-of (Board cores tick) = ((λ e. absurd (not-one cc)), λ (c, e). cc)
+end-answer-of (RowOf fields) = ((λ e. absurd (not-one cc)), λ (c, e). cc)
 end-answer-of (End count) = ((λ e. (count, refl)), λ e. refl)
 
 pub end-answer : (found : Record) (r : Bool) → r ≡ isEnd found → EndAnswer found r
@@ -235,7 +236,7 @@ release-judged b place demand r is =
     let same = is ∙ calls-answered .judge-release b place demand in
     record {
       turned-away = λ one first.
-          ap benchPaper same ∙ call-turned-away b (releases place demand) one first .on-paper;
+          ap outcomePaper same ∙ call-turned-away b (releases place demand) one first .on-paper;
       taken = λ passed. same ∙ call-taken b (releases place demand) passed;
     }
 
@@ -244,7 +245,7 @@ pub tick-judged : (b : Bench) (r : CallOutcome) → r ≡ outcomeOf (firstFailin
 tick-judged b r is =
     let same = is ∙ calls-answered .judge-tick b in
     record {
-      turned-away = λ one first. ap benchPaper same ∙ call-turned-away b ticks one first .on-paper;
+      turned-away = λ one first. ap outcomePaper same ∙ call-turned-away b ticks one first .on-paper;
       taken = λ passed. same ∙ call-taken b ticks passed;
     }
 

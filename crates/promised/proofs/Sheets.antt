@@ -11,6 +11,7 @@ use lib.ListN.{length, drop, replicate, length-take}
 use lib.Seq.{take-at, drop-at}
 use borrow.Author.Tests.{lt-ltb, le-ltb}
 use Rattle.laws.specs.Member.{Member}
+use Rattle.laws.proofs.Tests.{not-one}
 use Rattle.quantities.specs.Table.{rowsOf, emptyTable}
 use Rattle.quantities.specs.Row.{rowOf}
 use Rattle.quantities.specs.declared.Micros.{Micros}
@@ -22,8 +23,8 @@ use Rattle.sheet.specs.Entries.{ticksOf, rowIn, boardSheet, entriesOf, used, in
 use Rattle.sheet.proofs.Entries.{used-here, used-below}
 use Rattle.sheet.proofs.Order.{inserted-permuted, inserted-rising, length-inserted}
 use Rattle.sheet.proofs.Tables.{table-with-rows}
-use Rattle.promises.proofs.Sheets.{rising-by-index, index-rising}
-use Rattle.promises.proofs.SheetsRows.{rows-in-ticks}
+use Rattle.sheetpages.proofs.Sheets.{rising-by-index, index-rising}
+use Rattle.sheetpages.proofs.SheetsRows.{rows-in-ticks}
 use Rattle.promised.specs.Promised.{entriesIn, NoEntries, Uses, UsedAnswer, OneEntryMore, EntryAnswer}
 use Rattle.promised.specs.Promised.{RowsOfEntries, RowAnswer}
 
@@ -37,7 +38,7 @@ Has priority entries = (one : RowFields) × Member one entries × (one .priority
 
 used-by : (priority : ℕ) (entries : List RowFields) → used priority entries ≡ true → Has priority entries
 unfolding used
-used-by priority [] e = let z : _≡_ {A = ℕ} 0 1 = cc in absurd (omega arith)
+used-by priority [] e = absurd (not-one cc)
 used-by priority (entry ∷ entries) e = go (decEq (entry .priority) priority) (used-by priority entries)
   where
     go : Dec (entry .priority ≡ priority) → (used priority entries ≡ true → Has priority entries)

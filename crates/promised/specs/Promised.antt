@@ -38,20 +38,20 @@ use Rattle.bench.specs.declared.Outcome.the-variants.{Taken}
 use Rattle.bench.specs.declared.Opening.{Opening}
 use Rattle.bench.specs.declared.Released.{Released}
 use Rattle.bench.specs.declared.Ticked.{Ticked as TickedBench}
-use Rattle.bench.specs.Refusal.{paperOf}
+use Rattle.bench.specs.Refusal.{outcomePaper}
 use Rattle.replay.specs.declared.Replayed.{Replayed}
 use Rattle.replay.specs.declared.Replayed.the-variants.{NotOpened, NoRoom}
 use Rattle.replay.specs.Replay.{requestsIn}
-use Rattle.promises.specs.Sheets.{blankEntry, RisingPriority, RowInTicks, RowsInTicks, WholeWith, FirstFault}
-use Rattle.promises.specs.Sheets.{SheetRead, TurnedAway}
-use Rattle.promises.specs.SheetRecords.{BoardFits, RowFits, boardBytes, rowBytes, endBytes}
+use Rattle.sheetpages.specs.Sheets.{blankEntry, RisingPriority, RowInTicks, RowsInTicks, WholeWith, FirstFault}
+use Rattle.sheetpages.specs.Sheets.{SheetRead, TurnedAway}
+use Rattle.sheetpages.specs.SheetRecords.{BoardFits, RowFits, boardBytes, rowBytes, endBytes}
 use Rattle.promises.specs.Tool.{refusedText, WholeWay}
-use Rattle.promises.specs.Lists.{listOrder, lentOrder, faultAt, ListInRange}
-use Rattle.promises.specs.Windows.{JudgedBy}
-use Rattle.promises.specs.Lent.{InEntries, LentJudgement}
-use Rattle.promises.specs.Calls.{releaseOrder, tickOrder, newBench, blankBench, RecordBroken, ListsPolls}
-use Rattle.promises.specs.Moves.{PollStarted, Ticked}
-use Rattle.promises.specs.CallBytes.{answersTo, ReplayAnswers}
+use Rattle.rowpages.specs.Lists.{listOrder, lentOrder, faultAt, ListInRange}
+use Rattle.rowpages.specs.Windows.{JudgedBy}
+use Rattle.rowpages.specs.Lent.{InEntries, LentJudgement}
+use Rattle.benchpages.specs.Calls.{releaseOrder, tickOrder, newBench, blankBench, RecordBroken, ListsPolls}
+use Rattle.benchpages.specs.Moves.{PollStarted, Ticked}
+use Rattle.benchpages.specs.CallBytes.{answersTo, ReplayAnswers}
 
 -- `sheet::read`: a sheet without fault is taken, with what stands on it; one with a fault is turned away by
 -- its first one.
@@ -190,13 +190,13 @@ BrokenAnswer b r = (r ≡ true) ↔ RecordBroken b
 -- none does, and a poll starts.
 pub record ReleaseAnswer (b : Bench) (place demand : ℕ) (r : Released) : Type 0 where
   pub turned-away : (one : Paper) → FirstFailing (releaseOrder b place demand) one
-      → (paperOf (r .outcome) ≡ paper (one .number) (one .place)) × (r .bench ≡ b)
+      → (outcomePaper (r .outcome) ≡ paper (one .number) (one .place)) × (r .bench ≡ b)
   pub taken : Each (λ one. one .fails ≡ false) (releaseOrder b place demand)
       → PollStarted b place demand (record { outcome = r .outcome; finishes = []; bench = r .bench })
 
 -- A tick that is turned away: its number and place, no poll that ended, and the bench as it was.
 pub record TickTurnedAway (b : Bench) (one : Paper) (r : TickedBench) : Type 0 where
-  pub on-paper : paperOf (r .outcome) ≡ paper (one .number) (one .place)
+  pub on-paper : outcomePaper (r .outcome) ≡ paper (one .number) (one .place)
   pub none-end : ListsPolls [] (r .finishes)
   pub same-bench : r .bench ≡ b
 
@@ -226,7 +226,7 @@ RequestAnswer b (Release place demand) r =
 
 -- `Bench::judge_release` and `Bench::judge_tick`: the first check that fails, or that none does.
 pub record OutcomeBy (checks : List (Check Paper)) (r : CallOutcome) : Type 0 where
-  pub turned-away : (one : Paper) → FirstFailing checks one → paperOf r ≡ paper (one .number) (one .place)
+  pub turned-away : (one : Paper) → FirstFailing checks one → outcomePaper r ≡ paper (one .number) (one .place)
   pub taken : Each (λ one. one .fails ≡ false) checks → r ≡ Taken
 
 -- `replay::replay`: every call answered where there is room for all answers; the answers to the first calls

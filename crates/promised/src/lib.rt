@@ -26,8 +26,8 @@ ghost use Rattle.promised.specs.Promised.{BrokenAnswer, TickAnswer, Requ
 ghost use Rattle.promised.specs.Promised.{ReplayAnswer, AnswerForC, ToldAnswer};
 ghost use Rattle.promised.specs.Promised.{RecordAnswer, sizeIs, EndAnswer, RowsOfEntries, RowAnswer};
 ghost use Rattle.promised.specs.Promised.{NoEntries, UsedAnswer, EntryAnswer};
-ghost use Rattle.promises.specs.Windows.{interferes};
-ghost use Rattle.promises.specs.Calls.{releaseOrder, tickOrder};
+ghost use Rattle.rowpages.specs.Windows.{interferes};
+ghost use Rattle.benchpages.specs.Calls.{releaseOrder, tickOrder};
 
 pub fn read_sheet(sheet: &[u8]) -> Outcome
     ensures { λ r. ⌜ SheetAnswer (now (sheet .entry)) r ⌝ }

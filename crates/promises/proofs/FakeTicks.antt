@@ -33,13 +33,13 @@ use Rattle.bench.specs.Fakes.{idled, once, invented, inventing}
 use Rattle.running.proofs.Parts.{last-step}
 use Rattle.running.proofs.Running.{bounds-hold}
 use Rattle.running.specs.Running.{EndsInTime}
-use Rattle.promises.specs.Calls.{neverReleased, stateOn, newBench, tickOrder}
-use Rattle.promises.specs.Moves.{TickServes}
-use Rattle.promises.specs.Polls.{boundsFor, boundFor}
-use Rattle.promises.specs.LentPolls.{ReleasedWithin}
+use Rattle.benchpages.specs.Calls.{neverReleased, stateOn, newBench, tickOrder}
+use Rattle.benchpages.specs.Moves.{TickServes}
+use Rattle.benchpages.specs.Polls.{boundsFor, boundFor}
+use Rattle.benchpages.specs.LentPolls.{ReleasedWithin}
 use Rattle.promises.specs.Fakes.{ServesOnce, InventsResponses, callWith, afterWith, BoundsKeptWith, FakeTicksCaught}
-use Rattle.promises.proofs.Moves.{no-other-tick}
-use Rattle.promises.proofs.LentPolls.{less-ago}
+use Rattle.benchpages.proofs.Moves.{no-other-tick}
+use Rattle.benchpages.proofs.LentPolls.{less-ago}
 
 -- one core and one row, whose bound is 1
 abbrev board : Table

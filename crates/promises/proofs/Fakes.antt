@@ -7,6 +7,7 @@ use lib.ListN.{getD, replicate}
 use Rattle.quantities.specs.declared.Row.{Row}
 use Rattle.quantities.specs.Row.{rowOf}
 use Rattle.laws.specs.Checks.{firstFailing}
+use Rattle.laws.proofs.Tests.{not-one}
 use Rattle.quantities.specs.Checks.{rowChecks, rowsChecks, listChecks, faultFrom, listFault}
 use Rattle.quantities.specs.Table.{rowsOf, emptyTable, withRow}
 use Rattle.windows.specs.declared.Answer.the-variants.{Shown}
@@ -19,16 +20,16 @@ use Rattle.records.specs.Bytes.{numberAfter, field}
 use Rattle.records.specs.Records.{recordLength, rowFields, wholeRecord, recordOn, isRowKind, isEnd}
 use Rattle.sheet.specs.Entries.{ticksOf, rowIn, boardSheet, entriesOf, used, inserted, withEntry, tableWith, tableIn, tableOf}
 use Rattle.sheet.specs.Checks.{misplaced, boardChecks, endChecks, recordChecks, verdictOf}
-use Rattle.sheet.specs.Checks.{rowChecks as recordRowChecks}
+use Rattle.sheet.specs.Checks.{rowRecordChecks as recordRowChecks}
 use Rattle.sheet.specs.Reader.{noSheet, newReading, afterRecord, refused, whole, unread, ended, firstFrom, firstSheetOf, closed, readOf}
-use Rattle.lines.specs.Words.{ascii}
-use Rattle.lines.specs.Decimal.{digitsIn, decimal}
+use Rattle.printing.specs.Words.{ascii}
+use Rattle.printing.specs.Decimal.{digitsIn, decimal}
 use Rattle.lines.specs.Lines.{firstLine, rowLine, rowLines, shownLine}
 use Rattle.text.specs.Text.{judgedText, boundLines}
 use Rattle.promises.specs.Tool.{sheetOfDocument}
-use Rattle.promises.specs.Lists.{ListInRange}
-use Rattle.promises.specs.Sheets.{WholeWith}
-use Rattle.promises.specs.Lent.{Lending}
+use Rattle.rowpages.specs.Lists.{ListInRange}
+use Rattle.sheetpages.specs.Sheets.{WholeWith}
+use Rattle.rowpages.specs.Lent.{Lending}
 use Rattle.promises.specs.Promises.{Reader, Judge, Tool, Demand2For}
 use Rattle.promises.specs.Fakes.{
   TurnsEverythingAway,
@@ -41,7 +42,7 @@ use Rattle.promises.specs.Fakes.{
   AsTheRecordsStand,
   FakesCaught,
 }
-use Rattle.promises.proofs.Windows.{judged-right, one-judgement-by-rules}
+use Rattle.rowpages.proofs.Windows.{judged-right, one-judgement-by-rules}
 use Rattle.promises.proofs.Tool.{one-text-printed, output-of-document}
 
 -- one core and two rows of document 01, of which the second has the bound 3 and the cost 2
@@ -134,8 +135,7 @@ module _ (read : Reader) (judge : Judge) (lend : Lending) (tool : Tool) where
   answers-none : Demand2For read judge lend tool → AnswersNoBounds judge → ⊥
   answers-none demand fake =
       let is = ap (λ (j : Judged). j .bounds) (must-answer demand) in
-      let z : _≡_ {A = ℕ} 0 1 = cc (sym is ∙ fake 1 two) in
-      omega arith
+      not-one (cc (sym is ∙ fake 1 two))
 
   -- where the lent list holds 0 twice, the bounds would be 0
   writes-none : Demand2For read judge writesNoBounds tool → ⊥
@@ -146,8 +146,7 @@ module _ (read : Reader) (judge : Judge) (lend : Lending) (tool : Tool) where
       let same = one-judgement-by-rules 1 two _ (judged 1 two) (left .right) right ∙ two-judged in
       let bounds : left .bounds ≡ 1 ∷ 3 ∷ [] = ap (λ (j : Judged). j .bounds) same in
       let first = rw bounds at (left .first) in
-      let z : _≡_ {A = ℕ} 0 1 = ap (λ (xs : List ℕ). getD xs 0 0) first in
-      omega arith
+      not-one (ap (λ (xs : List ℕ). getD xs 0 0) first)
 
   keeps-order : Demand2For read judge lend tool → KeepsSheetOrder read → ⊥
   keeps-order demand fake =

@@ -3,34 +3,34 @@ use Rattle.sheet.proofs.Readings.{read-to-means}
 use Rattle.running.proofs.Running.{bounds-hold}
 use Rattle.running.proofs.Replayed.{replay-in-time}
 use Rattle.promises.specs.Promises.{Demand1, Demand2, Demand3}
-use Rattle.promises.proofs.Quantities.{kept-apart}
-use Rattle.promises.proofs.Sheets.{sheet-either, sheet-taken, taken-sheet-is-whole, sheet-turned-away}
-use Rattle.promises.proofs.Sheets.{refused-sheet-has-fault, no-byte-at-the-end, whole-length, sheets-read, one-reading}
-use Rattle.promises.proofs.SheetRecords.{records-come-back, parts-told, priorities-to-999, row-records-to-32, thirty-two-taken}
-use Rattle.promises.proofs.Lists.{faulty-list-turned-away, refused-list-has-fault, taken-exactly}
-use Rattle.promises.proofs.Lists.{cores-to-16, rows-to-32, gaps-to-1000000}
-use Rattle.promises.proofs.Tables.{named-limits, table-made, table-checked}
-use Rattle.promises.proofs.Lent.{lent-answered, lent-turned-away, refused-lent-has-fault, lent-judged, one-lent}
-use Rattle.promises.proofs.Lent.{of-lengths, by-value, told-for, triple-is-row, triples-in-order, callers-in-c}
-use Rattle.promises.proofs.Broken.{broken-exactly}
-use Rattle.promises.proofs.Calls.{gives-29, call-turned-away, call-taken, refused-call-has-fault}
-use Rattle.promises.proofs.Calls.{refused-changes-nothing, gap-permitted, first-release-permitted}
-use Rattle.promises.proofs.Openings.{opening-refused, opening-taken, opened-holds, refusal-numbers}
-use Rattle.promises.proofs.Openings.{clock-to-1000000000, ended-listed, calls-answered}
-use Rattle.promises.proofs.CallBytes.{requests-read, requests-done, poll-comes-back, polls-fit-bytes, answer-comes-back}
-use Rattle.promises.proofs.CallBytes.{replay-answered, replay-no-room, replay-not-opened}
-use Rattle.promises.proofs.Moves.{release-starts, no-other-release, tick-serves, no-other-tick}
-use Rattle.promises.proofs.Windows.{judged-right, one-judgement-by-rules, largest-total, floor-form, formulas-answered}
-use Rattle.promises.proofs.Solution.{bounds-solve}
-use Rattle.promises.proofs.Patterns.{plain-is-largest, carry-is-largest, no-more-than-carry}
+use Rattle.rowpages.proofs.Quantities.{kept-apart}
+use Rattle.sheetpages.proofs.Sheets.{sheet-either, sheet-taken, taken-sheet-is-whole, sheet-turned-away}
+use Rattle.sheetpages.proofs.Sheets.{refused-sheet-has-fault, no-byte-at-the-end, whole-length, sheets-read, one-reading}
+use Rattle.sheetpages.proofs.SheetRecords.{records-come-back, parts-told, priorities-to-999, row-records-to-32, thirty-two-taken}
+use Rattle.rowpages.proofs.Lists.{faulty-list-turned-away, refused-list-has-fault, taken-exactly}
+use Rattle.rowpages.proofs.Lists.{cores-to-16, rows-to-32, gaps-to-1000000}
+use Rattle.rowpages.proofs.Tables.{named-limits, table-made, table-checked}
+use Rattle.rowpages.proofs.Lent.{lent-answered, lent-turned-away, refused-lent-has-fault, lent-judged, one-lent}
+use Rattle.rowpages.proofs.Lent.{of-lengths, by-value, told-for, triple-is-row, triples-in-order, callers-in-c}
+use Rattle.benchpages.proofs.Broken.{broken-exactly}
+use Rattle.benchpages.proofs.Calls.{gives-29, call-turned-away, call-taken, refused-call-has-fault}
+use Rattle.benchpages.proofs.Calls.{refused-changes-nothing, gap-permitted, first-release-permitted}
+use Rattle.benchpages.proofs.Openings.{opening-refused, opening-taken, opened-holds, refusal-numbers}
+use Rattle.benchpages.proofs.Openings.{clock-to-1000000000, ended-listed, calls-answered}
+use Rattle.benchpages.proofs.CallBytes.{requests-read, requests-done, poll-comes-back, polls-fit-bytes, answer-comes-back}
+use Rattle.benchpages.proofs.CallBytes.{replay-answered, replay-no-room, replay-not-opened}
+use Rattle.benchpages.proofs.Moves.{release-starts, no-other-release, tick-serves, no-other-tick}
+use Rattle.rowpages.proofs.Windows.{judged-right, one-judgement-by-rules, largest-total, floor-form, formulas-answered}
+use Rattle.rowpages.proofs.Solution.{bounds-solve}
+use Rattle.rowpages.proofs.Patterns.{plain-is-largest, carry-is-largest, no-more-than-carry}
 use Rattle.promises.proofs.Tool.{goes-the-whole-way, one-text-printed, in-decimal, words-in-bytes, text-at-the-front, first-1024}
 use Rattle.promises.proofs.Tool.{output-of-document}
-use Rattle.promises.proofs.Clock.{clock-counts}
-use Rattle.promises.proofs.Polls.{polls-end, polls-end-in-ticks, polls-end-or-wait}
-use Rattle.promises.proofs.LentPolls.{lent-calls-answer, lent-runs-on, lent-run-hears, lent-runs-history}
-use Rattle.promises.proofs.LentPolls.{lent-bounds-hold, lent-polls-end}
-use Rattle.promises.proofs.Histories.{history-runs, books}
-use Rattle.promises.proofs.Below.{answer-from-above, run-from-above}
+use Rattle.benchpages.proofs.Clock.{clock-counts}
+use Rattle.benchpages.proofs.Polls.{polls-end, polls-end-in-ticks, polls-end-or-wait}
+use Rattle.benchpages.proofs.LentPolls.{lent-calls-answer, lent-runs-on, lent-run-hears, lent-runs-history}
+use Rattle.benchpages.proofs.LentPolls.{lent-bounds-hold, lent-polls-end}
+use Rattle.benchpages.proofs.Histories.{history-runs, books}
+use Rattle.benchpages.proofs.Below.{answer-from-above, run-from-above}
 
 pub demand-1 : Demand1
 demand-1 =

@@ -31,18 +31,18 @@ use Rattle.sheet.specs.declared.Sheet.{Sheet}
 use Rattle.sheet.specs.Entries.{rowIn, noEntry, entriesOf, tableOf}
 use Rattle.sheet.specs.Reader.{readOf}
 use Rattle.sheet.proofs.Promises.{table-in-order}
-use Rattle.lines.specs.Words.{ascii}
-use Rattle.lines.specs.Decimal.{decimal}
+use Rattle.printing.specs.Words.{ascii}
+use Rattle.printing.specs.Decimal.{decimal}
 use Rattle.lines.specs.Lines.{firstLine, rowLine, rowLines, shownLine, notShownLine, refusedLine}
-use Rattle.lines.proofs.Decimal.{decimal-one, decimal-more}
+use Rattle.printing.proofs.Decimal.{decimal-one, decimal-more}
 use Rattle.text.specs.Text.{boundLines, labelAt, judgedText, sheetText, textOf}
 use Rattle.text.proofs.Text.{text-unread, text-read, text-first-bytes}
 use Rattle.text.specs.Cases.{sheet-of-document}
 use Rattle.text.specs.Printed.{Printed, countIn}
 use Rattle.text.proofs.Printed.{text-in-front, nothing-written}
-use Rattle.promises.specs.Lists.{listOrder, ListInRange}
-use Rattle.promises.specs.Windows.{JudgedBy, EveryRowShown, FirstRowNotShown}
-use Rattle.promises.specs.Sheets.{coresOf, tickOf, WholeWith, FirstFault}
+use Rattle.rowpages.specs.Lists.{listOrder, ListInRange}
+use Rattle.rowpages.specs.Windows.{JudgedBy, EveryRowShown, FirstRowNotShown}
+use Rattle.sheetpages.specs.Sheets.{coresOf, tickOf, WholeWith, FirstFault}
 use Rattle.promises.specs.Tool.{
   Digits,
   one,
@@ -64,9 +64,9 @@ use Rattle.promises.specs.Tool.{
   TextInFront,
   First1024,
 }
-use Rattle.promises.proofs.Lists.{list-order, faulty-list-turned-away, in-range-sound, in-range-taken}
-use Rattle.promises.proofs.Sheets.{sheet-turned-away, sheet-either, sheets-read, one-reading}
-use Rattle.promises.proofs.Windows.{judged-right, one-judgement-by-rules}
+use Rattle.rowpages.proofs.Lists.{list-order, faulty-list-turned-away, in-range-sound, in-range-taken}
+use Rattle.sheetpages.proofs.Sheets.{sheet-turned-away, sheet-either, sheets-read, one-reading}
+use Rattle.rowpages.proofs.Windows.{judged-right, one-judgement-by-rules}
 
 -- Digits.
 digits-below : (most n : ℕ) → n < most → Digits n (decimal n)

@@ -15,18 +15,18 @@ use Rattle.sheet.specs.Entries.{entriesOf, tableOf}
 use Rattle.sheet.specs.Reader.{readOf}
 use Rattle.sheet.specs.declared.Verdict.the-variants.{Sound, Refused}
 use Rattle.text.specs.Text.{judgedText}
-use Rattle.promises.specs.Sheets.{behind, blankEntry, WholeWith, RowRead}
+use Rattle.sheetpages.specs.Sheets.{behind, blankEntry, WholeWith, RowRead}
 use Rattle.bench.specs.declared.Bench.{Bench}
 use Rattle.bench.specs.declared.Finish.{Finish}
 use Rattle.bench.specs.declared.Outcome.the-variants.{Taken}
 use Rattle.bench.specs.Step.{Step, opened, release, tick}
 use Rattle.bench.specs.History.{Call, releases, ticks}
 use Rattle.bench.specs.Fakes.{once, inventing}
-use Rattle.promises.specs.Calls.{stateOn}
-use Rattle.promises.specs.Polls.{boundsFor, boundFor}
-use Rattle.promises.specs.LentPolls.{ReleasedWithin}
-use Rattle.promises.specs.Lent.{Lending}
-use Rattle.promises.specs.Moves.{TickServes}
+use Rattle.benchpages.specs.Calls.{stateOn}
+use Rattle.benchpages.specs.Polls.{boundsFor, boundFor}
+use Rattle.benchpages.specs.LentPolls.{ReleasedWithin}
+use Rattle.rowpages.specs.Lent.{Lending}
+use Rattle.benchpages.specs.Moves.{TickServes}
 use Rattle.promises.specs.Tool.{refusedText}
 use Rattle.promises.specs.Promises.{Reader, Judge, Tool, Demand2For}
 

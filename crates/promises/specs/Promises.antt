@@ -14,31 +14,31 @@ use Rattle.text.specs.Text.{textOf}
 use Rattle.bench.specs.Step.{tick}
 use Rattle.running.specs.Running.{BoundsHold}
 use Rattle.running.specs.Replayed.{ReplayInTime}
-use Rattle.promises.specs.Quantities.{KeptApart}
-use Rattle.promises.specs.Sheets.{SheetEither, SheetTaken, TakenSheetIsWhole, SheetTurnedAway}
-use Rattle.promises.specs.Sheets.{RefusedSheetHasFault}
-use Rattle.promises.specs.Sheets.{WholeLength, NoByteAtTheEnd, SheetsRead, OneReading}
-use Rattle.promises.specs.SheetRecords.{RecordsComeBack, PartsTold, PrioritiesTo999, RowRecordsTo32, ThirtyTwoTaken}
-use Rattle.promises.specs.Lists.{FaultyListTurnedAway, RefusedListHasFault, TakenExactly}
-use Rattle.promises.specs.Lists.{CoresTo16, RowsTo32, GapsTo1000000}
-use Rattle.promises.specs.Tables.{NamedLimits, TableMade, TableChecked}
-use Rattle.promises.specs.Lent.{Lending, lent, LentAnswered, LentTurnedAway, RefusedLentHasFault}
-use Rattle.promises.specs.Lent.{OfLengths, LentJudged, OneLent, ByValue, ToldFor, TripleIsRow, TriplesInOrder, CallersInC}
-use Rattle.promises.specs.Calls.{BrokenExactly, Gives29, CallTurnedAway, CallTaken, RefusedCallHasFault}
-use Rattle.promises.specs.Calls.{GapPermitted, FirstReleasePermitted, OpeningRefused, OpeningTaken}
-use Rattle.promises.specs.Calls.{RefusedChangesNothing, OpenedHolds, RefusalNumbers, ClockTo1000000000, EndedListed, CallsAnswered}
-use Rattle.promises.specs.CallBytes.{RequestsRead, RequestsDone, PollComesBack, PollsFit, AnswerComesBack}
-use Rattle.promises.specs.CallBytes.{ReplayAnswered, ReplayNoRoom, ReplayNotOpened}
-use Rattle.promises.specs.Moves.{ReleaseStarts, NoOtherRelease, TickServes, NoOtherTick}
-use Rattle.promises.specs.Windows.{JudgedRight, OneJudgement, LargestTotal, FloorForm, BoundsSolve, FormulasAnswered}
-use Rattle.promises.specs.Patterns.{PlainIsLargest, CarryIsLargest, NoMoreThanCarry}
+use Rattle.rowpages.specs.Quantities.{KeptApart}
+use Rattle.sheetpages.specs.Sheets.{SheetEither, SheetTaken, TakenSheetIsWhole, SheetTurnedAway}
+use Rattle.sheetpages.specs.Sheets.{RefusedSheetHasFault}
+use Rattle.sheetpages.specs.Sheets.{WholeLength, NoByteAtTheEnd, SheetsRead, OneReading}
+use Rattle.sheetpages.specs.SheetRecords.{RecordsComeBack, PartsTold, PrioritiesTo999, RowRecordsTo32, ThirtyTwoTaken}
+use Rattle.rowpages.specs.Lists.{FaultyListTurnedAway, RefusedListHasFault, TakenExactly}
+use Rattle.rowpages.specs.Lists.{CoresTo16, RowsTo32, GapsTo1000000}
+use Rattle.rowpages.specs.Tables.{NamedLimits, TableMade, TableChecked}
+use Rattle.rowpages.specs.Lent.{Lending, lent, LentAnswered, LentTurnedAway, RefusedLentHasFault}
+use Rattle.rowpages.specs.Lent.{OfLengths, LentJudged, OneLent, ByValue, ToldFor, TripleIsRow, TriplesInOrder, CallersInC}
+use Rattle.benchpages.specs.Calls.{BrokenExactly, Gives29, CallTurnedAway, CallTaken, RefusedCallHasFault}
+use Rattle.benchpages.specs.Calls.{GapPermitted, FirstReleasePermitted, OpeningRefused, OpeningTaken}
+use Rattle.benchpages.specs.Calls.{RefusedChangesNothing, OpenedHolds, RefusalNumbers, ClockTo1000000000, EndedListed, CallsAnswered}
+use Rattle.benchpages.specs.CallBytes.{RequestsRead, RequestsDone, PollComesBack, PollsFit, AnswerComesBack}
+use Rattle.benchpages.specs.CallBytes.{ReplayAnswered, ReplayNoRoom, ReplayNotOpened}
+use Rattle.benchpages.specs.Moves.{ReleaseStarts, NoOtherRelease, TickServes, NoOtherTick}
+use Rattle.rowpages.specs.Windows.{JudgedRight, OneJudgement, LargestTotal, FloorForm, BoundsSolve, FormulasAnswered}
+use Rattle.rowpages.specs.Patterns.{PlainIsLargest, CarryIsLargest, NoMoreThanCarry}
 use Rattle.promises.specs.Tool.{GoesTheWholeWay, OneText, InDecimal, WordsInBytes, TextInFront, First1024}
 use Rattle.promises.specs.Tool.{OutputOfDocument}
-use Rattle.promises.specs.Polls.{ClockCounts, PollsEnd, PollsEndInTicks, PollsEndOrWait}
-use Rattle.promises.specs.LentPolls.{LentCallsAnswer, LentRunsOn, LentRunHears, LentRunsHistory}
-use Rattle.promises.specs.LentPolls.{LentBoundsHold, LentPollsEnd}
-use Rattle.promises.specs.Histories.{HistoryRuns, Books}
-use Rattle.promises.specs.Below.{AnswerFromAbove, RunFromAbove}
+use Rattle.benchpages.specs.Polls.{ClockCounts, PollsEnd, PollsEndInTicks, PollsEndOrWait}
+use Rattle.benchpages.specs.LentPolls.{LentCallsAnswer, LentRunsOn, LentRunHears, LentRunsHistory}
+use Rattle.benchpages.specs.LentPolls.{LentBoundsHold, LentPollsEnd}
+use Rattle.benchpages.specs.Histories.{HistoryRuns, Books}
+use Rattle.benchpages.specs.Below.{AnswerFromAbove, RunFromAbove}
 
 -- Every sheet is answered: taken where it is whole, else turned away by its first fault (page Sheets), and
 -- the bytes of a record are its numbers (page SheetRecords).

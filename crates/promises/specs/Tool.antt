@@ -12,13 +12,13 @@ use Rattle.windows.specs.declared.Answer.the-variants.{Shown, NotShown}
 use Rattle.records.specs.declared.RowFields.{RowFields}
 use Rattle.sheet.specs.declared.Sheet.{Sheet}
 use Rattle.sheet.specs.Entries.{entriesOf, tableOf}
-use Rattle.lines.specs.Words.{ascii}
-use Rattle.lines.specs.Decimal.{decimal}
+use Rattle.printing.specs.Words.{ascii}
+use Rattle.printing.specs.Decimal.{decimal}
 use Rattle.text.specs.Printed.{Printed}
 use Rattle.text.specs.Text.{textOf}
-use Rattle.promises.specs.Lists.{listOrder, ListInRange}
-use Rattle.promises.specs.Sheets.{blankEntry, coresOf, tickOf, WholeWith, FirstFault, SheetRead}
-use Rattle.promises.specs.Windows.{JudgedBy}
+use Rattle.rowpages.specs.Lists.{listOrder, ListInRange}
+use Rattle.sheetpages.specs.Sheets.{blankEntry, coresOf, tickOf, WholeWith, FirstFault, SheetRead}
+use Rattle.rowpages.specs.Windows.{JudgedBy}
 
 -- A number is printed in decimal: a digit below ten, or the digits of its tenth, which is not 0, and then the
 -- last one.
@@ -50,7 +50,7 @@ abbrev pub rowText : (place label bound d : ℕ) → List ℕ
 rowText place label bound d =
     decimal place ++ ascii " " ++ decimal label ++ ascii " " ++ decimal bound ++ ascii " " ++ decimal d ++ ascii "\n"
 
--- the lines of the first so many entries, with their rows in ticks and their bounds; the row with index k stands at
+-- the lines of the first entries, this many, with their rows in ticks and their bounds; the row with index k stands at
 -- place k + 1
 abbrev pub rowTexts : List RowFields → List Row → List ℕ → ℕ → List ℕ
 rowTexts entries rows bounds zero = []
@@ -65,7 +65,7 @@ notShownText place label = ascii "not shown " ++ decimal place ++ ascii " " ++ d
 abbrev pub refusedText : (number place : ℕ) → List ℕ
 refusedText number place = ascii "refused " ++ decimal number ++ ascii " " ++ decimal place ++ ascii "\n"
 
--- The text for entries, and their rows in ticks, on a board with so many cores and this tick length is that of the
+-- The text for entries, and their rows in ticks, on a board with this many cores and this tick length is that of the
 -- judgement of these rows: each line has the label and D of the row whose bound stands there.
 pub data TextOf (cores tick : ℕ) (entries : List RowFields) (rows : List Row) (text : List ℕ) : Type 0 where
   turned-away : (first : Paper) → FirstFailing (listOrder cores rows) first

@@ -32,8 +32,8 @@ unfolding faultFrom
 fault-is-some one = at (one .number) (one .place)
   where
     at : (number place : ℕ) → faultFrom (some (paper number place)) ≡ none → ⊥
-    at number zero e = let z : _≡_ {A = ℕ} 0 1 = cc in omega arith
-    at number (suc p) e = let z : _≡_ {A = ℕ} 0 1 = cc in omega arith
+    at number zero e = not-one cc
+    at number (suc p) e = not-one cc
 
 -- there is a fault exactly where a check fails
 pub fault-none : (checks : List (Check Paper)) → faultFrom (firstFailing checks) ≡ none → firstFailing checks ≡ none
@@ -80,7 +80,7 @@ unfolding faultFrom
 fault-in-first a b f e = go (firstFailing a) refl
   where
     go : (found : Option Paper) → firstFailing a ≡ found → faultFrom (firstFailing (a ++ b)) ≡ some f
-    go none q = let z : _≡_ {A = ℕ} 0 1 = cc (rw (q, faultFrom) at e) in absurd (omega arith)
+    go none q = absurd (not-one (cc (rw (q, faultFrom) at e)))
     go (some one) q = rw (found-in-first a b one q) (rw q at e)
 
 pub fault-in-second : (a b : List (Check Paper)) → faultFrom (firstFailing a) ≡ none
@@ -127,7 +127,7 @@ module _ (cores : ℕ) (rows : List Row) where
   list-fault-rows some-rows few some-cores few-cores =
       simp (ne-eqb (length rows) 0 some-rows, le-ltb rowCapacity (length rows) few, ne-eqb cores 0 some-cores, le-ltb coreLimit cores few-cores)
 
--- The fault of a list whose bounds go into a list with so many entries: its own fault comes first, then 7.
+-- The fault of a list whose bounds go into a list with this many entries: its own fault comes first, then 7.
 module _ (cores entries : ℕ) (rows : List Row) where
   pub lent-fault-list : (f : Fault) → listFault cores rows ≡ some f → lentFault cores entries rows ≡ some f
   unfolding lentFault listFault
@@ -148,9 +148,9 @@ module _ (cores entries : ℕ) (rows : List Row) where
 pub checked-sound : (found : Option Fault) → checkedOf found ≡ Sound → found ≡ none
 unfolding checkedOf
 checked-sound none e = refl
-checked-sound (some f) e = let z : _≡_ {A = ℕ} 0 1 = cc in absurd (omega arith)
+checked-sound (some f) e = absurd (not-one cc)
 
 pub checked-faulty : (found : Option Fault) (f : Fault) → checkedOf found ≡ Faulty f → found ≡ some f
 unfolding checkedOf
-checked-faulty none f e = let z : _≡_ {A = ℕ} 0 1 = cc in absurd (omega arith)
+checked-faulty none f e = absurd (not-one cc)
 checked-faulty (some g) f e = cc

@@ -10,6 +10,7 @@ use Rattle.quantities.specs.Paper.{Paper, paper, faultPaper}
 use Rattle.quantities.specs.declared.Fault.{Fault}
 use Rattle.quantities.specs.declared.Fault.the-variants.{WholeList, OneRow}
 use Rattle.laws.proofs.Checks.{first-failing, first-found}
+use Rattle.laws.proofs.Tests.{not-one}
 
 -- The fault of checks, where the first that fails tells this number and place.
 pub record Turned (checks : List (Check Paper)) (one : Paper) : Type 0 where
@@ -37,6 +38,6 @@ fault-first checks fault e = go (firstFailing checks) refl
     made number (suc p) f = let is : OneRow number (suc p) ≡ fault = cc in rw (← is) refl
 
     go : (found : Option Paper) → firstFailing checks ≡ found → FirstFailing checks (faultPaper fault)
-    go none q = let z : _≡_ {A = ℕ} 0 1 = cc (rw q at e) in absurd (omega arith)
+    go none q = absurd (not-one (cc (rw q at e)))
     go (some one) q =
         first-failing checks (faultPaper fault) (q ∙ ap some (made (one .number) (one .place) (rw q at e)))

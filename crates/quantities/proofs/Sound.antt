@@ -10,7 +10,7 @@ use lib.ListN.{length}
 use lib.Dec.{eqb, ltb}
 use borrow.Author.Tests.{ltb-false, eqb-false}
 use Rattle.laws.specs.Each.{Each}
-use Rattle.laws.proofs.Tests.{or-false}
+use Rattle.laws.proofs.Tests.{or-false, not-one}
 use Rattle.laws.proofs.Checks.{none-fails, none-found}
 use Rattle.quantities.specs.Limits.{rowCapacity, coreLimit, largestGap}
 use Rattle.quantities.specs.Row.{cost, deadline, gap}
@@ -45,8 +45,8 @@ sound-rows-means place (row ∷ rows) = go (rowFault place (isLast rows) row) re
         let same = rows-fault-below place row rows q in
         ((λ e. (sound-row place (isLast rows) row q, below .0 (sym same ∙ e))), (λ e. same ∙ below .1 (e .1)))
     go (some f) q below = (
-      (λ e. let z : _≡_ {A = ℕ} 0 1 = cc (rows-fault-here place row rows f q) in absurd (omega arith)),
-      (λ e. let z : _≡_ {A = ℕ} 0 1 = cc (row-fault-none place (isLast rows) row (e .0)) in absurd (omega arith)),
+      (λ e. absurd (not-one (cc (rows-fault-here place row rows f q)))),
+      (λ e. absurd (not-one (cc (row-fault-none place (isLast rows) row (e .0))))),
     )
 
 -- A list has no fault exactly where it is sound.

@@ -50,14 +50,14 @@ impl Row {
         Ticks(self.c.0)
     }
 
-    // Whether one poll takes more than so many ticks. Asked of any row, so nothing is added up.
+    // Whether one poll takes more than this many ticks. Asked of any row, so nothing is added up.
     fn costs_more(self, than: Ticks) -> bool
         ensures { λ r. ⌜ r ≡ ltb (than .0) (cost self) ⌝ }
     {
         than.0 < self.c.0
     }
 
-    // Whether one poll takes less than so many ticks. Asked of any row, as above.
+    // Whether one poll takes less than this many ticks. Asked of any row, as above.
     pub fn costs_less(self, than: Ticks) -> bool
         ensures { λ r. ⌜ r ≡ ltb (cost self) (than .0) ⌝ }
     {

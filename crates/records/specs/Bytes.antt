@@ -8,6 +8,6 @@ unfoldable pub numberAfter : ℕ → List ℕ → ℕ
 numberAfter high [] = high
 numberAfter high (byte ∷ bytes) = numberAfter (high * 256 + byte) bytes
 
--- the number in so many bytes of a part, from a place on
+-- the number in this many bytes of a part, from a place on
 unfoldable pub field : (at width : ℕ) → List ℕ → ℕ
 field at width part = numberAfter 0 (take width (drop at part))

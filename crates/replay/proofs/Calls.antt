@@ -22,7 +22,7 @@ use Rattle.bench.specs.Step.{Step, emptyBench, openingOf}
 use Rattle.bench.proofs.Open.{opening-sound}
 use Rattle.bench.specs.History.{doCall, callOf, steps}
 use Rattle.replay.specs.declared.Replayed.the-variants.{Done, NotOpened, NotACall, NoRoom}
-use Rattle.replay.specs.Format.{requestIn, answerBytes, joined}
+use Rattle.replay.specs.Format.{requestIn, answerBytes, answersJoined}
 use Rattle.replay.specs.Replay.{requestsIn, Replay, ending, answered, replayFrom, replayAfter, replay}
 use Rattle.replay.proofs.Format.{requests-stop, requests-next}
 use Rattle.replay.proofs.Writes.{sets-append}
@@ -57,15 +57,15 @@ module _ (calls : List ℕ) (b : Bench) (place at : ℕ) (out : List ℕ) where
   all-done h = rw (drop-of-length-le calls {i = place} h)
 
 -- Where there is room for all of them, the buffer holds the answers of the run of the definition, and no other byte changed.
-pub replay-run : (whole : Bool) (requests : List Request) (b : Bench) (place at : ℕ) (out : List ℕ) → at + length (joined (steps b (map callOf requests))) ≤ length out
+pub replay-run : (whole : Bool) (requests : List Request) (b : Bench) (place at : ℕ) (out : List ℕ) → at + length (answersJoined (steps b (map callOf requests))) ≤ length out
     → answered whole b requests place at out
-    ≡ record { answer = ending whole (place + 6 * length requests) (at + length (joined (steps b (map callOf requests)))); out = sets out at (joined (steps b (map callOf requests))) }
+    ≡ record { answer = ending whole (place + 6 * length requests) (at + length (answersJoined (steps b (map callOf requests)))); out = sets out at (answersJoined (steps b (map callOf requests))) }
 unfolding answered steps
 replay-run whole [] b place at out h = rw (add-zero, add-zero)
 replay-run whole (request ∷ rest) b place at out h =
     let step = doCall b (callOf request) in
     let bytes = answerBytes step in
-    let later = joined (steps (step .bench) (map callOf rest)) in
+    let later = answersJoined (steps (step .bench) (map callOf rest)) in
     let both = length-append bytes later in
     let fits : length bytes ≤ length out - at = omega arith in
     let more = replay-run whole rest (step .bench) (place + 6) (at + length bytes) (sets out at bytes) (omega (arith, length-sets out at bytes)) in

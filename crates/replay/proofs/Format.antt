@@ -8,6 +8,7 @@ use mathlib.Core.Option.{none, some}
 use lib.ListN.{length, getD, drop}
 use lib.Seq.{drop-cons}
 use borrow.Author.Tests.{eq-eqb, ne-eqb}
+use Rattle.laws.proofs.Tests.{not-one}
 use Rattle.bench.specs.declared.Request.{Request}
 use Rattle.bench.specs.declared.Request.the-variants.{Release, Tick}
 use Rattle.replay.specs.Format.{requestOf, requestIn}
@@ -39,12 +40,12 @@ requests-stop (a ∷ b ∷ c ∷ d ∷ e' ∷ f ∷ rest) h e = rw e
 pub requests-next : (bytes : List ℕ) (request : Request) → requestIn bytes ≡ some request
     → (6 ≤ length bytes) × (requestsIn bytes ≡ record { list = request ∷ requestsIn (drop 6 bytes) .list; whole = requestsIn (drop 6 bytes) .whole })
 unfolding requestIn requestsIn
-requests-next [] r e = let z : _≡_ {A = ℕ} 0 1 = cc in absurd (omega arith)
-requests-next (a ∷ []) r e = let z : _≡_ {A = ℕ} 0 1 = cc in absurd (omega arith)
-requests-next (a ∷ b ∷ []) r e = let z : _≡_ {A = ℕ} 0 1 = cc in absurd (omega arith)
-requests-next (a ∷ b ∷ c ∷ []) r e = let z : _≡_ {A = ℕ} 0 1 = cc in absurd (omega arith)
-requests-next (a ∷ b ∷ c ∷ d ∷ []) r e = let z : _≡_ {A = ℕ} 0 1 = cc in absurd (omega arith)
-requests-next (a ∷ b ∷ c ∷ d ∷ e' ∷ []) r e = let z : _≡_ {A = ℕ} 0 1 = cc in absurd (omega arith)
+requests-next [] r e = absurd (not-one cc)
+requests-next (a ∷ []) r e = absurd (not-one cc)
+requests-next (a ∷ b ∷ []) r e = absurd (not-one cc)
+requests-next (a ∷ b ∷ c ∷ []) r e = absurd (not-one cc)
+requests-next (a ∷ b ∷ c ∷ d ∷ []) r e = absurd (not-one cc)
+requests-next (a ∷ b ∷ c ∷ d ∷ e' ∷ []) r e = absurd (not-one cc)
 requests-next (a ∷ b ∷ c ∷ d ∷ e' ∷ f ∷ rest) r e = (omega arith, rw e)
 
 -- The call in the six bytes from a place on, by those bytes.

@@ -15,12 +15,12 @@ use Rattle.bench.specs.History.{callOf, steps}
 use Rattle.bench.proofs.Kept.{opened-empty}
 use Rattle.replay.specs.declared.Replayed.the-variants.{Done}
 use Rattle.replay.specs.Replay.{requestsIn, replay, replayAfter, replayFrom}
-use Rattle.replay.specs.Format.{joined}
+use Rattle.replay.specs.Format.{answersJoined}
 use Rattle.replay.proofs.Calls.{replay-run}
 
 -- the bytes that answer the run of these calls from a bench
 abbrev pub answersOf : Bench → (calls : List ℕ) → List ℕ
-answersOf b calls = joined (steps b (map callOf (requestsIn calls .list)))
+answersOf b calls = answersJoined (steps b (map callOf (requestsIn calls .list)))
 
 -- The buffer begins with the answers, and every byte after them is as it was.
 pub replay-is-run : (cores : ℕ) (table : Table) (b : Bench) → opened cores table ≡ some b → (calls out : List ℕ) → requestsIn calls .whole ≡ true

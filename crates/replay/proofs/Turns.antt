@@ -7,6 +7,7 @@ use mathlib.Core.Option.{Option, none, some}
 use lib.ListN.{length, take, drop, length-drop, length-take, replicate}
 use lib.Seq.{sets, length-sets, take-append-seam}
 use Rattle.laws.specs.Checks.{firstFailing}
+use Rattle.laws.proofs.Tests.{not-one}
 use Rattle.quantities.specs.Limits.{rowCapacity}
 use Rattle.quantities.proofs.Rows.{length-rows}
 use Rattle.bench.specs.declared.Bench.{Bench}
@@ -25,7 +26,7 @@ use Rattle.bench.proofs.Serving.{finished-few, length-units}
 use Rattle.bench.proofs.Steps.{tick-taken, tick-refused, release-no-polls}
 use Rattle.replay.specs.declared.Read.the-variants.{Nothing as NoCall, Call as OneCall}
 use Rattle.replay.specs.declared.Replayed.the-variants.{Done, NotACall, NoRoom}
-use Rattle.replay.specs.Format.{requestIn, readOf, answerOf, answerBytes}
+use Rattle.replay.specs.Format.{requestIn, requestRead, answerOf, answerBytes}
 use Rattle.replay.specs.Replay.{replayFrom}
 use Rattle.replay.proofs.Format.{requests-next}
 use Rattle.replay.proofs.Writes.{counted, length-polls}
@@ -69,15 +70,15 @@ answer-says b call r e =
     }
 
 -- what reading says of the call
-read-some : (found : Option Request) (request : Request) → readOf found ≡ OneCall request → found ≡ some request
-unfolding readOf
-read-some none request e = let z : _≡_ {A = ℕ} 0 1 = cc in absurd (omega arith)
+read-some : (found : Option Request) (request : Request) → requestRead found ≡ OneCall request → found ≡ some request
+unfolding requestRead
+read-some none request e = absurd (not-one cc)
 read-some (some other) request e = cc
 
-read-none : (found : Option Request) → readOf found ≡ NoCall → found ≡ none
-unfolding readOf
+read-none : (found : Option Request) → requestRead found ≡ NoCall → found ≡ none
+unfolding requestRead
 read-none none e = refl
-read-none (some other) e = let z : _≡_ {A = ℕ} 0 1 = cc in absurd (omega arith)
+read-none (some other) e = absurd (not-one cc)
 
 -- Before the turn at byte `place` of the calls: replaying the rest from here is the whole replay.
 pub record Replays (b₀ : Bench) (calls out₀ out : List ℕ) (b : Bench) (place at : ℕ) : Type 0 where
@@ -90,14 +91,14 @@ pub replays-first : (b : Bench) (calls out : List ℕ) → Replays b calls out o
 replays-first b calls out = record { within = omega arith; room = omega arith; same-length = refl; rest = refl }
 
 module _ (b₀ : Bench) (calls out₀ out : List ℕ) (b : Bench) (place at : ℕ) (s : Replays b₀ calls out₀ out b place at) where
-  pub replays-no-call : place < length calls → readOf (requestIn (drop place calls)) ≡ NoCall
+  pub replays-no-call : place < length calls → requestRead (requestIn (drop place calls)) ≡ NoCall
       → replayFrom b₀ calls out₀ ≡ record { answer = NotACall place; out = out }
   replays-no-call h e = sym (s .rest) ∙ no-call calls b place at out h (read-none (requestIn (drop place calls)) e)
 
   pub replays-last : length calls ≤ place → replayFrom b₀ calls out₀ ≡ record { answer = Done at; out = out }
   replays-last h = sym (s .rest) ∙ all-done calls b place at out h
 
-  module _ (request : Request) (e : readOf (requestIn (drop place calls)) ≡ OneCall request) (r : Ticked) (er : r ≡ tickedOf (doCall b (callOf request))) where
+  module _ (request : Request) (e : requestRead (requestIn (drop place calls)) ≡ OneCall request) (r : Ticked) (er : r ≡ tickedOf (doCall b (callOf request))) where
     abbrev found : requestIn (drop place calls) ≡ some request
     found = read-some (requestIn (drop place calls)) request e
 

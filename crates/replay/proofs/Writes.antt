@@ -11,7 +11,7 @@ use Rattle.bench.specs.declared.Finish.{Finish}
 use Rattle.bench.specs.declared.Finishes.{Finishes}
 use Rattle.bench.specs.declared.Outcome.{Outcome}
 use Rattle.bench.specs.Ended.{noFinish}
-use Rattle.bench.specs.Refusal.{paperOf}
+use Rattle.bench.specs.Refusal.{outcomePaper}
 use Rattle.replay.specs.Format.{byteOf, pollBytes, pollsBytes, answerOf}
 
 -- stores of one list after another
@@ -69,7 +69,7 @@ writes-last out₀ from polls out at i w h =
     rw e at (w .rest)
 
 -- three stores in front of the polls' bytes are an answer
-pub answer-written : (out : List ℕ) (at : ℕ) (outcome : Outcome) (polls : List Finish) (n p c : ℕ) → n ≡ paperOf outcome .number → p ≡ byteOf (paperOf outcome .place) → c ≡ byteOf (length polls)
+pub answer-written : (out : List ℕ) (at : ℕ) (outcome : Outcome) (polls : List Finish) (n p c : ℕ) → n ≡ outcomePaper outcome .number → p ≡ byteOf (outcomePaper outcome .place) → c ≡ byteOf (length polls)
     → sets (set (set (set out at n) (at + 1) p) (at + 2) c) (at + 3) (pollsBytes polls) ≡ sets out at (answerOf outcome polls)
 answer-written out at outcome polls n p c en ep ec =
     let one : at + 1 ≡ suc at = omega arith in

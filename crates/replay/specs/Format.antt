@@ -9,7 +9,7 @@ use Rattle.bench.specs.declared.Request.{Request}
 use Rattle.bench.specs.declared.Request.the-variants.{Release, Tick}
 use Rattle.bench.specs.declared.Outcome.{Outcome}
 use Rattle.bench.specs.declared.Finish.{Finish}
-use Rattle.bench.specs.Refusal.{paperOf}
+use Rattle.bench.specs.Refusal.{outcomePaper}
 use Rattle.bench.specs.Step.{Step}
 use Rattle.replay.specs.declared.Read.{Read}
 use Rattle.replay.specs.declared.Read.the-variants.{Nothing, Call}
@@ -36,9 +36,9 @@ requestIn (a ∷ []) = none
 requestIn [] = none
 
 -- as the code answers it
-unfoldable pub readOf : Option Request → Read
-readOf none = Nothing
-readOf (some request) = Call request
+unfoldable pub requestRead : Option Request → Read
+requestRead none = Nothing
+requestRead (some request) = Call request
 
 -- the lowest byte of a number
 abbrev pub byteOf : ℕ → ℕ
@@ -57,12 +57,12 @@ pollsBytes (poll ∷ polls) = pollBytes poll ++ pollsBytes polls
 -- the answer to a call: its number and its place on paper, how many polls ended, and these
 abbrev pub answerOf : Outcome → List Finish → List ℕ
 answerOf outcome polls =
-    paperOf outcome .number ∷ byteOf (paperOf outcome .place) ∷ byteOf (length polls) ∷ pollsBytes polls
+    outcomePaper outcome .number ∷ byteOf (outcomePaper outcome .place) ∷ byteOf (length polls) ∷ pollsBytes polls
 
 abbrev pub answerBytes : Step → List ℕ
 answerBytes step = answerOf (step .outcome) (step .finishes)
 
 -- the answers to a history, one after the other
-abbrev pub joined : List Step → List ℕ
-joined [] = []
-joined (step ∷ rest) = answerBytes step ++ joined rest
+abbrev pub answersJoined : List Step → List ℕ
+answersJoined [] = []
+answersJoined (step ∷ rest) = answerBytes step ++ answersJoined rest

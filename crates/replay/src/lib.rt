@@ -4,8 +4,8 @@ ghost use Prim.Native.Nat.{_+_, _*_, _≤_, _<_};
 ghost use lib.ListN.{length, take, drop};
 ghost use lib.Seq.{sets};
 ghost use Rattle.quantities.specs.Limits.{rowCapacity};
-ghost use Rattle.bench.specs.Refusal.{paperOf};
-ghost use Rattle.replay.specs.Format.{requestIn, readOf, byteOf, pollBytes, pollsBytes, answerOf};
+ghost use Rattle.bench.specs.Refusal.{outcomePaper};
+ghost use Rattle.replay.specs.Format.{requestIn, requestRead, byteOf, pollBytes, pollsBytes, answerOf};
 ghost use Rattle.replay.specs.Replay.{replayFrom, replay};
 use bench::Bench;
 use bench::Finish;
@@ -24,7 +24,7 @@ pub enum Read {
     Call(Request),
 }
 
-// How a replay ended: all calls answered, in so many bytes; no bench; no call, or no room for its answer, at a byte of the calls.
+// How a replay ended: all calls answered, in this many bytes; no bench; no call, or no room for its answer, at a byte of the calls.
 pub enum Replayed {
     Done(usize),
     NotOpened(Fault),
@@ -49,7 +49,7 @@ fn place_in(byte: u8) -> usize
 // The call in the six bytes from `at` on, if they are there and are one.
 fn read_call(calls: &[u8], at: usize) -> Read
     requires { ⌜ at ≤ length (now calls) ⌝ }
-    ensures { λ r. ⌜ r ≡ readOf (requestIn (drop at (now (calls .entry)))) ⌝ }
+    ensures { λ r. ⌜ r ≡ requestRead (requestIn (drop at (now (calls .entry)))) ⌝ }
 {
     if calls.len() - at < 6 {
         return Read::Nothing;
@@ -72,7 +72,7 @@ fn read_call(calls: &[u8], at: usize) -> Read
 
 // The number that answers a call: 0 where it was taken.
 fn number_of(outcome: Outcome) -> u8
-    ensures { λ r. ⌜ r ≡ paperOf outcome .number ⌝ }
+    ensures { λ r. ⌜ r ≡ outcomePaper outcome .number ⌝ }
 {
     let Outcome::Refused(why) = outcome else {
         return 0;
@@ -89,7 +89,7 @@ fn number_of(outcome: Outcome) -> u8
 
 // The place that stands with it.
 fn place_of(outcome: Outcome) -> usize
-    ensures { λ r. ⌜ r ≡ paperOf outcome .place ⌝ }
+    ensures { λ r. ⌜ r ≡ outcomePaper outcome .place ⌝ }
 {
     let Outcome::Refused(why) = outcome else {
         return 0;

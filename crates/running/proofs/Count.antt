@@ -10,7 +10,7 @@ use Rattle.laws.specs.Each.{Each}
 use Rattle.windows.specs.Window.{limit, interference}
 use Rattle.windows.specs.Choice.{Bounded, InRange, Passes, loads, carriers, total}
 use Rattle.bench.specs.declared.RowState.{RowState}
-use Rattle.bench.specs.Serving.{total as sum}
+use Rattle.bench.specs.Serving.{sum}
 use Rattle.running.proofs.Invariant.{Above, no-rows, more}
 use Rattle.running.proofs.Phase.{work-le}
 use Rattle.running.proofs.Above.{flags-each}

@@ -8,7 +8,7 @@ use Rattle.quantities.specs.Row.{cost, gap}
 use Rattle.windows.specs.Choice.{Bounded, bounded, InRange, Passes, carriers}
 use Rattle.bench.specs.declared.RowState.{RowState}
 use Rattle.bench.specs.Record.{work}
-use Rattle.bench.specs.Serving.{total as sum}
+use Rattle.bench.specs.Serving.{sum}
 use Rattle.running.proofs.State.{ever, came}
 
 -- A row's state: no more work than one poll has, no release after now, and work only of a poll that came.

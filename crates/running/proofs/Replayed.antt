@@ -12,7 +12,7 @@ use Rattle.bench.specs.declared.Bench.{Bench}
 use Rattle.bench.specs.declared.Request.{Request}
 use Rattle.bench.specs.History.{callOf, doCall, steps}
 use Rattle.bench.proofs.Kept.{opened-empty}
-use Rattle.replay.specs.Format.{answerBytes, joined}
+use Rattle.replay.specs.Format.{answerBytes, answersJoined}
 use Rattle.replay.specs.Replay.{requestsIn, answered, replay, replayAfter, replayFrom}
 use Rattle.replay.proofs.Writes.{sets-append}
 use Rattle.running.specs.Replayed.{ReplayInTime}
@@ -23,7 +23,7 @@ record Answered (whole : Bool) (b : Bench) (requests : List Request) (place at :
   done : List Request
   left : List Request
   first : requests ≡ done ++ left
-  written : answered whole b requests place at out .out ≡ sets out at (joined (steps b (map callOf done)))
+  written : answered whole b requests place at out .out ≡ sets out at (answersJoined (steps b (map callOf done)))
 
 answered-first : (whole : Bool) (requests : List Request) (b : Bench) (place at : ℕ) (out : List ℕ)
     → Answered whole b requests place at out
@@ -33,7 +33,7 @@ answered-first whole (request ∷ rest) b place at out =
     let step = doCall b (callOf request) in
     let bytes = answerBytes step in
     let more = answered-first whole rest (step .bench) (place + 6) (at + length bytes) (sets out at bytes) in
-    let later = joined (steps (step .bench) (map callOf (more .done))) in
+    let later = answersJoined (steps (step .bench) (map callOf (more .done))) in
     elim (decLt (length out - at) (length bytes)) [
       | yes full ↦
           record {

@@ -23,7 +23,7 @@ use Rattle.bench.specs.declared.Refusal.{Refusal}
 use Rattle.bench.specs.declared.Refusal.the-variants.{Unfinished}
 use Rattle.bench.specs.declared.Outcome.the-variants.{Taken}
 use Rattle.bench.specs.Record.{rows, rowAt, stateAt}
-use Rattle.bench.specs.Refusal.{releaseTests, tickTests, refusalPaper, paperOf}
+use Rattle.bench.specs.Refusal.{releaseTests, tickTests, refusalPaper, outcomePaper}
 use Rattle.bench.specs.Serving.{units, finished}
 use Rattle.bench.specs.Step.{unless, started, release, served, taken, tick, emptyBench}
 use Rattle.bench.specs.History.{Call, releases, ticks, doCall, after}
@@ -74,11 +74,11 @@ module _ {M : ℕ} {list : List Row} {bounds : List ℕ} (b : Bench) (run : InRu
 
   pub release-not-unfinished : (place : ℕ) → 1 ≤ place → place ≤ length bounds → (other demand : ℕ)
       → NotUnfinished place (release b other demand)
-  unfolding release unless paperOf
+  unfolding release unless outcomePaper
   release-not-unfinished place first within other demand = go (firstFailing (releaseTests b other demand)) refl
     where
       go : (refusal : Option Refusal) → firstFailing (releaseTests b other demand) ≡ refusal
-          → paperOf
+          → outcomePaper
           (unless refusal (record { outcome = Taken; finishes = []; bench = started b other demand }) b .outcome)
           ≡ paper 21 place
           → ⊥
@@ -89,11 +89,11 @@ module _ {M : ℕ} {list : List Row} {bounds : List ℕ} (b : Bench) (run : InRu
           none-unfinished other (omega arith) (omega arith) why unfinished
 
   tick-not-unfinished : (place : ℕ) → NotUnfinished place (tick b)
-  unfolding tick unless taken paperOf
+  unfolding tick unless taken outcomePaper
   tick-not-unfinished place = go (firstFailing (tickTests b)) refl
     where
       go : (refusal : Option Refusal) → firstFailing (tickTests b) ≡ refusal
-          → paperOf (unless refusal (taken b) b .outcome) ≡ paper 21 place → ⊥
+          → outcomePaper (unless refusal (taken b) b .outcome) ≡ paper 21 place → ⊥
       go none e says = let no : _≡_ {A = ℕ} 0 21 = ap (λ (p : Paper). p .number) says in omega arith
       go (some why) e says = tick-refusal b why e (ap (λ (p : Paper). p .number) says)
 

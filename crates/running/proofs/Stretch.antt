@@ -5,7 +5,7 @@ use mathlib.Core.List.{List}
 use native.Mathlib.Omega.{arith}
 use Rattle.windows.specs.Choice.{Bounded}
 use Rattle.bench.specs.declared.RowState.{RowState}
-use Rattle.bench.specs.Serving.{total as sum}
+use Rattle.bench.specs.Serving.{sum}
 use Rattle.running.proofs.State.{spare, servedUp}
 use Rattle.running.proofs.Invariant.{Facts, Stretch}
 use Rattle.running.proofs.Above.{above-full, above-slack, anew, ranges}

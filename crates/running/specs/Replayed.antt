@@ -11,7 +11,7 @@ use Rattle.bench.specs.declared.Bench.{Bench}
 use Rattle.bench.specs.declared.Request.{Request}
 use Rattle.bench.specs.Step.{opened}
 use Rattle.bench.specs.History.{callOf, steps}
-use Rattle.replay.specs.Format.{joined}
+use Rattle.replay.specs.Format.{answersJoined}
 use Rattle.replay.specs.Replay.{requestsIn, replay}
 use Rattle.running.specs.Running.{boundsOf, boundAt, EndsInTime, NotUnfinished}
 
@@ -21,7 +21,7 @@ pub record WritesInTime (cores : ℕ) (table : Table) (start : Bench) (calls out
   pub done : List Request
   pub left : List Request
   pub first : requestsIn calls .list ≡ done ++ left
-  pub written : replay cores table calls out .out ≡ sets out 0 (joined (steps start (map callOf done)))
+  pub written : replay cores table calls out .out ≡ sets out 0 (answersJoined (steps start (map callOf done)))
   pub in-time : (place : ℕ) → 1 ≤ place → place ≤ length (boundsOf cores table)
       → Each (EndsInTime place (boundAt (boundsOf cores table) place)) (steps start (map callOf done))
   pub never-21 : (place : ℕ) → 1 ≤ place → place ≤ length (boundsOf cores table)

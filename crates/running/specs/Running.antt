@@ -14,7 +14,7 @@ use Rattle.bench.specs.declared.Last.the-variants.{Never, At}
 use Rattle.bench.specs.declared.Bench.{Bench}
 use Rattle.bench.specs.declared.Finish.{Finish}
 use Rattle.bench.specs.Record.{stateAt, work}
-use Rattle.bench.specs.Refusal.{paperOf}
+use Rattle.bench.specs.Refusal.{outcomePaper}
 use Rattle.bench.specs.Step.{Step, opened, release}
 use Rattle.bench.specs.History.{Call, after, steps}
 
@@ -42,7 +42,7 @@ EndsInTime place bound step =
 
 -- The step does not answer 21 for the row at a place: that its last poll is unfinished.
 abbrev pub NotUnfinished : (place : ℕ) → Step → Type 0
-NotUnfinished place step = paperOf (step .outcome) ≡ paper 21 place → ⊥
+NotUnfinished place step = outcomePaper (step .outcome) ≡ paper 21 place → ⊥
 
 -- A bound holds for the row at a place in a history of calls from a bench: in the state after the history, in
 -- every step of it, and for any release that may come next.

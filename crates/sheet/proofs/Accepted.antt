@@ -11,7 +11,7 @@ use Rattle.laws.specs.Permuted.{Permuted, as-is, keep, swap, both}
 use Rattle.laws.proofs.Permuted.{permuted-after, permuted-move}
 use Rattle.quantities.specs.Limits.{rowCapacity}
 use Rattle.sheet.specs.Entries.{used, inserted, insertedAll, Rising, Different}
-use Rattle.sheet.specs.Whole.{Permitted}
+use Rattle.sheet.specs.Whole.{PriorityInRange}
 use Rattle.records.specs.declared.RowFields.{RowFields}
 use Rattle.sheet.proofs.Entries.{used-below}
 use Rattle.sheet.proofs.Order.{inserted-permuted, inserted-rising, length-inserted, unused-first, unused-rest}
@@ -20,7 +20,7 @@ use Rattle.sheet.proofs.Order.{inserted-permuted, inserted-rising, leng
 abbrev pub Accepted : List RowFields → List RowFields → Type 0
 Accepted entries [] = Unit {0}
 Accepted entries (new ∷ news) =
-    (length entries < rowCapacity) × Permitted new × (used (new .priority) entries ≡ false) × Accepted (inserted new entries) news
+    (length entries < rowCapacity) × PriorityInRange new × (used (new .priority) entries ≡ false) × Accepted (inserted new entries) news
 
 -- none of the new entries has a priority that is used
 abbrev pub Fresh : List RowFields → List RowFields → Type 0
@@ -78,7 +78,7 @@ fresh-before new entries (x ∷ news) f =
 -- What is asked of entries for them to be accepted, whatever their order.
 pub record Acceptable (entries news : List RowFields) : Type 0 where
   pub few : length news + length entries ≤ rowCapacity
-  pub permitted : Each Permitted news
+  pub permitted : Each PriorityInRange news
   pub different : Different news
   pub fresh : Fresh entries news
 

@@ -13,7 +13,7 @@ use Rattle.records.specs.declared.Record.{Record}
 use Rattle.records.proofs.Parts.{board-long, end-long}
 use Rattle.sheet.specs.Entries.{entriesOf, insertedAll, sheetOf, Rising, Different}
 use Rattle.sheet.specs.Reader.{noSheet, newReading, afterRecord, refused, whole, readOf}
-use Rattle.sheet.specs.Whole.{joined, entriesOn, Permitted, WholeSheet, bytesOf, MadeOf}
+use Rattle.sheet.specs.Whole.{joined, entriesOn, PriorityInRange, WholeSheet, bytesOf, MadeOf}
 use Rattle.records.specs.declared.RowFields.{RowFields}
 use Rattle.sheet.specs.declared.Sheet.{Sheet}
 use Rattle.sheet.specs.declared.Reading.{Reading}
@@ -94,7 +94,7 @@ module _ (board : List ℕ) (rows others : List (List ℕ)) (end : List ℕ) (p 
         some-tick = w .some-tick;
         then-rows = permuted-each RowRecord p (w .then-rows);
         few-rows = omega (arith, w .few-rows);
-        permitted = permuted-each Permitted q (w .permitted);
+        permitted = permuted-each PriorityInRange q (w .permitted);
         different = different-permuted q (w .different);
         end-last = w .end-last;
         counted = w .counted ∙ l;

@@ -6,7 +6,7 @@ use mathlib.Core.Bool.{Bool, true, false, not, cond, _&&_}
 use mathlib.Core.List.{List, [], _∷_}
 use lib.Dec.{eqb, ltb}
 use borrow.Author.Tests.{eq-eqb, ne-eqb, le-ltb, le-leb, lt-leb, eqb-true, eqb-false, leb-false, ltb-false, not-false}
-use Rattle.laws.proofs.Tests.{or-false}
+use Rattle.laws.proofs.Tests.{or-false, not-one}
 use Rattle.quantities.specs.Limits.{rowCapacity}
 use Rattle.laws.specs.Checks.{Check, firstFailing}
 use Rattle.quantities.specs.Paper.{Paper}
@@ -17,7 +17,7 @@ use Rattle.records.specs.declared.RowFields.{RowFields}
 use Rattle.records.specs.declared.Record.{Record}
 use Rattle.records.specs.declared.Record.the-variants.{Missing, Unknown, Cut, Board, Row, End}
 use Rattle.sheet.specs.Entries.{entriesOf, used}
-use Rattle.sheet.specs.Checks.{topPriority, misplaced, boardChecks, rowChecks, endChecks, recordChecks, ownChecks, verdictOf}
+use Rattle.sheet.specs.Checks.{topPriority, misplaced, boardChecks, rowRecordChecks, endChecks, recordChecks, ownChecks, verdictOf}
 use Rattle.sheet.specs.declared.Sheet.{Sheet}
 use Rattle.sheet.specs.declared.Reading.{Reading}
 use Rattle.sheet.specs.declared.Verdict.{Verdict}
@@ -25,7 +25,7 @@ use Rattle.sheet.specs.declared.Verdict.the-variants.{Sound, Refused}
 
 -- a verdict is not both
 pub sound-not-refused : (number place : ℕ) → Refused number place ≡ Sound → ⊥
-sound-not-refused number place e = let z : _≡_ {A = ℕ} 0 1 = cc in omega arith
+sound-not-refused number place e = not-one cc
 
 -- The first check decides where it fails, else those after it do.
 module _ (number place : ℕ) (fails : Bool) (rest : List (Check Paper)) where
@@ -82,12 +82,12 @@ module _ (at left : ℕ) (reading : Reading) where
   module _ (fields : RowFields) where
     pub row-misplaced : misplaced (reading .begun) rowKind ≡ true → verdictOf (recordChecks at left reading (Row fields)) ≡ Refused 13 at
     unfolding recordChecks
-    row-misplaced e = verdict-fails 13 at _ (rowChecks at (reading .sheet) (fields .priority)) e
+    row-misplaced e = verdict-fails 13 at _ (rowRecordChecks at (reading .sheet) (fields .priority)) e
 
     pub row-placed : misplaced (reading .begun) rowKind ≡ false
-        → verdictOf (recordChecks at left reading (Row fields)) ≡ verdictOf (rowChecks at (reading .sheet) (fields .priority))
+        → verdictOf (recordChecks at left reading (Row fields)) ≡ verdictOf (rowRecordChecks at (reading .sheet) (fields .priority))
     unfolding recordChecks
-    row-placed e = verdict-passes 13 at _ (rowChecks at (reading .sheet) (fields .priority)) e
+    row-placed e = verdict-passes 13 at _ (rowRecordChecks at (reading .sheet) (fields .priority)) e
 
   module _ (count : ℕ) where
     pub end-misplaced : misplaced (reading .begun) endKind ≡ true → verdictOf (recordChecks at left reading (End count)) ≡ Refused 13 at
@@ -110,8 +110,8 @@ sound-first number place fails rest s = go fails refl
 
 -- a 33rd row record is refused by 14, whatever stands in its box
 pub row-beyond : (at : ℕ) (sheet : Sheet) (priority : ℕ) → rowCapacity ≤ sheet .count
-    → verdictOf (rowChecks at sheet priority) ≡ Refused 14 at
-unfolding rowChecks
+    → verdictOf (rowRecordChecks at sheet priority) ≡ Refused 14 at
+unfolding rowRecordChecks
 row-beyond at sheet priority full = verdict-fails 14 at _ _ (le-leb rowCapacity (sheet .count) full)
 
 -- a row record is sound exactly where there is room for it, its priority is 1 to 999, and no row has it
@@ -121,13 +121,13 @@ pub record SoundRow (sheet : Sheet) (priority : ℕ) : Type 0 where
   pub in-range : priority ≤ topPriority
   pub unused : used priority (entriesOf sheet) ≡ false
 
-pub row-sound : (at : ℕ) (sheet : Sheet) (priority : ℕ) → SoundRow sheet priority → verdictOf (rowChecks at sheet priority) ≡ Sound
-unfolding rowChecks verdictOf firstFailing
+pub row-sound : (at : ℕ) (sheet : Sheet) (priority : ℕ) → SoundRow sheet priority → verdictOf (rowRecordChecks at sheet priority) ≡ Sound
+unfolding rowRecordChecks verdictOf firstFailing
 row-sound at sheet priority r =
     simp (lt-leb rowCapacity (sheet .count) (r .room), ne-eqb priority 0 (omega (arith, r .filled)), le-ltb topPriority priority (r .in-range), r .unused)
 
-pub sound-row : (at : ℕ) (sheet : Sheet) (priority : ℕ) → verdictOf (rowChecks at sheet priority) ≡ Sound → SoundRow sheet priority
-unfolding rowChecks
+pub sound-row : (at : ℕ) (sheet : Sheet) (priority : ℕ) → verdictOf (rowRecordChecks at sheet priority) ≡ Sound → SoundRow sheet priority
+unfolding rowRecordChecks
 sound-row at sheet priority s =
     let a = sound-first 14 at _ _ s in
     let b = sound-first 16 at _ _ (a .1) in

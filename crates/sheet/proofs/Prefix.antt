@@ -10,6 +10,7 @@ use lib.ListN.{length, getD, take, drop, length-take, length-drop}
 use lib.Seq.{take-all}
 use borrow.Author.Tests.{lt-ltb}
 use Rattle.laws.proofs.Lists.{drop-take}
+use Rattle.laws.proofs.Tests.{not-one}
 use Rattle.quantities.specs.Limits.{rowCapacity}
 use Rattle.records.specs.Records.{boardKind, rowKind, boardLength, endLength, longestRecord, kindOn, sizeOn}
 use Rattle.records.specs.Records.{coresOn, tickOn, rowFields, recordOn, isEnd}
@@ -78,7 +79,7 @@ not-begun true h = absurd (h refl)
 not-begun false h = refl
 
 both-ways : (b : Bool) → b ≡ true → b ≡ false → ⊥
-both-ways b p q = let z : _≡_ {A = ℕ} 0 1 = cc in omega arith
+both-ways b p q = not-one cc
 
 steady-next : (part : List ℕ) (reading : Reading) (at left : ℕ) → Steady reading at → (one : Record) → Found part one
     → verdictOf (recordChecks at left reading one) ≡ Sound → isEnd one ≡ false → Steady (afterRecord reading one) (at + sizeOn part)

@@ -9,7 +9,7 @@ use Rattle.quantities.specs.Limits.{rowCapacity}
 use Rattle.quantities.specs.Table.{rowsOf}
 use Rattle.quantities.specs.declared.Micros.{Micros}
 use Rattle.sheet.specs.Entries.{rowIn, entriesOf, tableIn, tableOf, sheetOf, Rising}
-use Rattle.sheet.specs.Reader.{noSheet, refused, whole, readOf, paperOf}
+use Rattle.sheet.specs.Reader.{noSheet, refused, whole, readOf, verdictPaper}
 use Rattle.records.specs.Records.{coresOn, tickOn}
 use Rattle.sheet.specs.Whole.{MadeOf}
 use Rattle.sheet.specs.Promises.{MissingAtTheEnd, WholeExactly, BoardAnswered, EachRowOnce, PrioritiesRise, TableInOrder, AnyOrder, NoTableRefused, FaultySheetTurnedAway, RefusedByFirstFault, AtMost550, First1024, OneOutcome}
@@ -102,10 +102,10 @@ pub missing-at-the-end : MissingAtTheEnd
 missing-at-the-end sheet reading at before e = missing-refused sheet reading at before e
 
 pub faulty-sheet-turned-away : FaultySheetTurnedAway
-unfolding refused paperOf
+unfolding refused verdictPaper
 faulty-sheet-turned-away sheet one fault =
     let answer = first-fault-refused sheet one fault in
-    (ap (λ (o : Outcome). paperOf (o .verdict)) answer, ap (λ (o : Outcome). o .sheet) answer)
+    (ap (λ (o : Outcome). verdictPaper (o .verdict)) answer, ap (λ (o : Outcome). o .sheet) answer)
 
 pub refused-by-first-fault : RefusedByFirstFault
 refused-by-first-fault = refused-first-fault

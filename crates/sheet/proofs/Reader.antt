@@ -9,6 +9,7 @@ use lib.ListN.{length, getD, drop, length-drop}
 use lib.Dec.{ltb}
 use lib.Seq.{drop-drop}
 use borrow.Author.Tests.{lt-ltb, le-ltb, ltb-true, ltb-false}
+use Rattle.laws.proofs.Tests.{not-one}
 use Rattle.records.specs.Records.{endLength, kindOn, recordOn, sizeOn, isEnd}
 use Rattle.records.specs.declared.Record.{Record}
 use Rattle.records.proofs.Records.{Found, nothing, unknown, cut, board, row, end, found, row-some, size-board, size-end}
@@ -92,11 +93,11 @@ closed-more long sheet place h = rw (lt-ltb place long h)
 end-size : (part : List ℕ) (one : Record) → Found part one → isEnd one ≡ true → sizeOn part ≡ endLength
 unfolding isEnd
 end-size part one (end kind long) last = size-end part kind
-end-size part one (board kind long) last = let z : _≡_ {A = ℕ} 0 1 = cc in absurd (omega arith)
-end-size part one (row is long) last = let z : _≡_ {A = ℕ} 0 1 = cc in absurd (omega arith)
-end-size part one (cut h short) last = let z : _≡_ {A = ℕ} 0 1 = cc in absurd (omega arith)
-end-size part one (unknown h e) last = let z : _≡_ {A = ℕ} 0 1 = cc in absurd (omega arith)
-end-size part one (nothing e) last = let z : _≡_ {A = ℕ} 0 1 = cc in absurd (omega arith)
+end-size part one (board kind long) last = absurd (not-one cc)
+end-size part one (row is long) last = absurd (not-one cc)
+end-size part one (cut h short) last = absurd (not-one cc)
+end-size part one (unknown h e) last = absurd (not-one cc)
+end-size part one (nothing e) last = absurd (not-one cc)
 
 pub read-none : (reading : Reading) (at : ℕ) (part : List ℕ) → readFrom 0 reading at part ≡ refused 11 at
 unfolding readFrom firstFrom

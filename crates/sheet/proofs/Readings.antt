@@ -12,6 +12,7 @@ use Rattle.laws.specs.Each.{Each}
 use Rattle.laws.specs.Permuted.{Permuted, as-is, keep, both}
 use Rattle.laws.proofs.Lists.{each-append}
 use Rattle.laws.proofs.Permuted.{permuted-back, permuted-move}
+use Rattle.laws.proofs.Tests.{not-one}
 use Rattle.quantities.specs.Limits.{rowCapacity}
 use Rattle.quantities.specs.declared.Micros.{Micros}
 use Rattle.records.specs.Records.{boardKind, boardLength, sizeOn, coresOn, tickOn, countOn, rowFields}
@@ -115,7 +116,7 @@ module _ (sheet : List ℕ) where
         is-row = front-row part is long;
         after = rw (← front-fields part is long) (after-row cores tick entries (rowFields part) room);
       }
-  known-row at part cores tick entries one (end kind long) s last = let z : _≡_ {A = ℕ} 0 1 = cc in absurd (omega arith)
+  known-row at part cores tick entries one (end kind long) s last = absurd (not-one cc)
   known-row at part cores tick entries one (board kind long) s last =
       absurd (sound-not-refused 13 at (sym (board-misplaced at (length part) (rowsAt cores tick entries) (coresOn part) (tickOn part) refl) ∙ s))
   known-row at part cores tick entries one (cut h short) s last =

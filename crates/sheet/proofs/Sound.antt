@@ -16,7 +16,7 @@ use Rattle.records.proofs.Parts.{front-board, front-tick, front-row, front-fiel
 use Rattle.sheet.specs.Entries.{used, inserted, sheetOf}
 use Rattle.sheet.specs.Checks.{misplaced, recordChecks, verdictOf}
 use Rattle.sheet.specs.Reader.{newReading, refused, readOf}
-use Rattle.sheet.specs.Whole.{joined, entriesOn, Permitted, MadeOf}
+use Rattle.sheet.specs.Whole.{joined, entriesOn, PriorityInRange, MadeOf}
 use Rattle.records.specs.declared.RowFields.{RowFields}
 use Rattle.sheet.specs.declared.Reading.{Reading}
 use Rattle.sheet.specs.declared.Verdict.{Verdict}
@@ -60,7 +60,7 @@ module _ (cores : ℕ) (tick : Micros) where
       let new = rowFields part in
       let front = take (sizeOn part) part in
       let room : length entries < rowCapacity = omega (arith, fit .room, count-of-sheet cores tick entries) in
-      let fine : Permitted new = record { filled = fit .filled; in-range = fit .in-range } in
+      let fine : PriorityInRange new = record { filled = fit .filled; in-range = fit .in-range } in
       let free : used (rowFields part .priority) entries ≡ false = rw (entries-of-sheet cores tick entries) at (fit .unused) in
       let taken : Accepted entries (rowFields front ∷ entriesOn (next .rows)) = rw (← front-fields part is long) (room, fine, free, next .accepted) in
       record {

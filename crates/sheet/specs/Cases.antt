@@ -124,7 +124,7 @@ priority-1000 : readOf (board ++ rowWith 0 1 ++ rowWith 3 232) ≡ refused 16 21
 unfolding sheets-compute
 priority-1000 = refl
 
--- so many rows, with the priorities from that number down to 1
+-- this many rows, with the priorities from that number down to 1
 abbrev rowsDown : ℕ → List ℕ
 rowsDown zero = []
 rowsDown (suc n) = rowWith 0 (suc n) ++ rowsDown n

@@ -31,14 +31,14 @@ unfoldable pub boardChecks : ℕ → Micros → List (Check Paper)
 boardChecks at tick = check 19 at (eqb (tick .0) 0) ∷ []
 
 -- the checks of a row record with this priority, after the rows that the sheet has so far
-unfoldable pub rowChecks : ℕ → Sheet → ℕ → List (Check Paper)
-rowChecks at sheet priority =
+unfoldable pub rowRecordChecks : ℕ → Sheet → ℕ → List (Check Paper)
+rowRecordChecks at sheet priority =
     check 14 at (leb rowCapacity (sheet .count))
     ∷ check 16 at (eqb priority 0 || ltb topPriority priority)
     ∷ check 15 at (used priority (entriesOf sheet))
     ∷ []
 
--- the checks of an end record with this count, with so many bytes from its kind byte on
+-- the checks of an end record with this count, with this many bytes from its kind byte on
 unfoldable pub endChecks : ℕ → ℕ → Sheet → ℕ → List (Check Paper)
 endChecks at left sheet count =
     check 17 at (not (eqb count (sheet .count)))
@@ -49,14 +49,14 @@ endChecks at left sheet count =
 abbrev pub placeCheck : ℕ → Reading → ℕ → Check Paper
 placeCheck at reading kind = check 13 at (misplaced (reading .begun) kind)
 
--- the checks of what was found at a place, with so many bytes from there on
+-- the checks of what was found at a place, with this many bytes from there on
 unfoldable pub recordChecks : ℕ → ℕ → Reading → Record → List (Check Paper)
 recordChecks at left reading Missing = check 11 at true ∷ []
 recordChecks at left reading Unknown = check 12 at true ∷ []
 recordChecks at left reading (Cut kind) = placeCheck at reading kind ∷ check 11 at true ∷ []
 recordChecks at left reading (Board cores tick) = placeCheck at reading boardKind ∷ boardChecks at tick
 recordChecks at left reading (Row fields) =
-    placeCheck at reading rowKind ∷ rowChecks at (reading .sheet) (fields .priority)
+    placeCheck at reading rowKind ∷ rowRecordChecks at (reading .sheet) (fields .priority)
 recordChecks at left reading (End count) =
     placeCheck at reading endKind ∷ endChecks at left (reading .sheet) count
 

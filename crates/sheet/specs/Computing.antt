@@ -4,13 +4,13 @@ use Rattle.records.specs.Bytes.{numberAfter, field}
 use Rattle.records.specs.Records.{recordLength, isRowKind, rowFields, wholeRecord, recordOn, isEnd}
 use Rattle.sheet.specs.Entries.{ticksOf, rowIn, boardSheet, entriesOf, used, inserted, withEntry}
 use Rattle.sheet.specs.Entries.{tableWith, tableIn, tableOf}
-use Rattle.sheet.specs.Checks.{misplaced, boardChecks, rowChecks, endChecks, recordChecks, verdictOf}
+use Rattle.sheet.specs.Checks.{misplaced, boardChecks, rowRecordChecks, endChecks, recordChecks, verdictOf}
 use Rattle.sheet.specs.Reader.{noSheet, newReading, afterRecord, refused, whole, unread, ended}
 use Rattle.sheet.specs.Reader.{firstFrom, firstSheetOf, closed, readOf}
 
 unfoldable pub sheets-compute : Unit {0}
 unfolding checks-compute readOf closed firstSheetOf firstFrom unread ended newReading noSheet boardSheet recordOn
     recordLength isRowKind isEnd wholeRecord rowFields field numberAfter recordChecks misplaced boardChecks
-    rowChecks endChecks verdictOf afterRecord withEntry inserted entriesOf rowIn ticksOf used whole refused
+    rowRecordChecks endChecks verdictOf afterRecord withEntry inserted entriesOf rowIn ticksOf used whole refused
     tableWith tableIn tableOf
 sheets-compute = tt

@@ -8,7 +8,7 @@ use Rattle.quantities.specs.Paper.{Paper, paper}
 use Rattle.quantities.specs.Table.{rowsOf}
 use Rattle.quantities.specs.declared.Micros.{Micros}
 use Rattle.sheet.specs.Entries.{rowIn, entriesOf, tableIn, tableOf, Rising}
-use Rattle.sheet.specs.Reader.{noSheet, refused, readOf, paperOf}
+use Rattle.sheet.specs.Reader.{noSheet, refused, readOf, verdictPaper}
 use Rattle.sheet.specs.Faults.{recordAt, ReadTo, FirstFault, FaultAt}
 use Rattle.records.specs.Records.{coresOn, tickOn}
 use Rattle.sheet.specs.Whole.{entriesOn, WholeSheet, bytesOf, MadeOf}
@@ -64,7 +64,7 @@ NoTableRefused =
 abbrev pub FaultySheetTurnedAway : Type 0
 FaultySheetTurnedAway =
     (sheet : List ℕ) (one : Paper) → FirstFault sheet one
-    → (paperOf (readOf sheet .verdict) ≡ paper (one .number) (one .place)) × (readOf sheet .sheet ≡ noSheet)
+    → (verdictPaper (readOf sheet .verdict) ≡ paper (one .number) (one .place)) × (readOf sheet .sheet ≡ noSheet)
 
 -- Where no byte stands, the sheet is refused by 11, and the place is its length.
 abbrev pub MissingAtTheEnd : Type 0

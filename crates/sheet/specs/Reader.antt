@@ -73,7 +73,7 @@ firstFrom (suc limit) reading at part =
 unfoldable pub firstSheetOf : List ℕ → FirstSheet
 firstSheetOf bytes = firstFrom (suc (length bytes)) newReading 0 bytes
 
--- the answer of so many bytes that are to be one sheet: those behind the first sheet's end turn it away
+-- the answer of this many bytes that are to be one sheet: those behind the first sheet's end turn it away
 unfoldable pub closed : ℕ → FirstSheet → Outcome
 closed long first =
     elim (first .verdict) [
@@ -86,6 +86,6 @@ unfoldable pub readOf : List ℕ → Outcome
 readOf sheet = closed (length sheet) (firstSheetOf sheet)
 
 -- a verdict on paper
-unfoldable pub paperOf : Verdict → Paper
-paperOf Sound = noRefusal
-paperOf (Refused number place) = paper number place
+unfoldable pub verdictPaper : Verdict → Paper
+verdictPaper Sound = noRefusal
+verdictPaper (Refused number place) = paper number place

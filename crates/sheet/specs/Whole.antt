@@ -21,7 +21,7 @@ entriesOn [] = []
 entriesOn (row ∷ rows) = rowFields row ∷ entriesOn rows
 
 -- Priority is 1 to 999.
-pub record Permitted (entry : RowFields) : Type 0 where
+pub record PriorityInRange (entry : RowFields) : Type 0 where
   pub filled : 0 < entry .priority
   pub in-range : entry .priority ≤ topPriority
 
@@ -31,7 +31,7 @@ pub record WholeSheet (board : List ℕ) (rows : List (List ℕ)) (end : List �
   pub some-tick : 0 < tickOn board .0
   pub then-rows : Each RowRecord rows
   pub few-rows : length rows ≤ rowCapacity
-  pub permitted : Each Permitted (entriesOn rows)
+  pub permitted : Each PriorityInRange (entriesOn rows)
   pub different : Different (entriesOn rows)
   pub end-last : OneRecord endKind end
   pub counted : countOn end ≡ length rows

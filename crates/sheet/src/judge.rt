@@ -10,7 +10,7 @@ use records::ROW_KIND;
 use records::Record;
 ghost use mathlib.Core.Path.{_≡_};
 ghost use Rattle.records.specs.Records.{endLength};
-ghost use Rattle.sheet.specs.Checks.{misplaced, boardChecks, rowChecks, endChecks};
+ghost use Rattle.sheet.specs.Checks.{misplaced, boardChecks, rowRecordChecks, endChecks};
 ghost use Rattle.sheet.specs.Checks.{ownChecks, verdictOf};
 
 const TOP_PRIORITY: u32 = 999;
@@ -35,7 +35,7 @@ fn check_board(tick: Micros, at: usize) -> Verdict
 }
 
 fn check_row(sheet: Sheet, priority: u32, at: usize) -> Verdict
-    ensures { λ r. ⌜ r ≡ verdictOf (rowChecks at sheet priority) ⌝ }
+    ensures { λ r. ⌜ r ≡ verdictOf (rowRecordChecks at sheet priority) ⌝ }
 {
     if Table::ROW_CAPACITY <= sheet.count {
         return Verdict::Refused(14, at);

@@ -6,18 +6,18 @@ use mathlib.Core.List.{List, _++_}
 use lib.ListN.{length, take, drop}
 use lib.Seq.{length-take-le, take-append-seam, drop-append-seam}
 use borrow.Author.Tests.{lt-ltb, le-ltb}
-use Rattle.lines.specs.Buffer.{overlaid, Puts}
-use Rattle.lines.proofs.Buffer.{length-puts}
+use Rattle.printing.specs.Buffer.{overlaid, Puts}
+use Rattle.printing.proofs.Buffer.{length-puts}
 use Rattle.text.specs.Text.{textOf}
-use Rattle.text.specs.Printed.{textRoom, written, countIn, Printed}
+use Rattle.text.specs.Printed.{textRoom, bufferAfter, countIn, Printed}
 
 module _ (sheet buffer : List ℕ) where
   -- a buffer that is too short is left as it is
   pub printed-nothing : length buffer < textRoom → Printed sheet buffer buffer 0
-  unfolding written countIn
+  unfolding bufferAfter countIn
   printed-nothing h =
       record {
-        holds = rw (lt-ltb (length buffer) textRoom h, written) refl;
+        holds = rw (lt-ltb (length buffer) textRoom h, bufferAfter) refl;
         counts = rw (lt-ltb (length buffer) textRoom h, countIn) refl;
         enough = λ k. absurd (omega arith);
         within = omega arith;
@@ -27,12 +27,12 @@ module _ (sheet buffer : List ℕ) where
   -- one with room enough has the text at its front
   pub printed : (after : List ℕ) (count : ℕ) → textRoom ≤ length buffer → Puts buffer 0 (textOf sheet) after count
       → length (textOf sheet) ≤ textRoom → Printed sheet buffer after count
-  unfolding written countIn
+  unfolding bufferAfter countIn
   printed after count h p short =
       let kept = length-puts p in
       let l : count ≤ length after = omega (arith, p .ends) in
       record {
-        holds = rw (le-ltb (length buffer) textRoom h, written) (p .lies);
+        holds = rw (le-ltb (length buffer) textRoom h, bufferAfter) (p .lies);
         counts = rw (le-ltb (length buffer) textRoom h, countIn) (omega (arith, p .ends));
         enough = λ k. short;
         within = l;
@@ -43,11 +43,11 @@ module _ (sheet buffer : List ℕ) where
 -- as it was.
 pub text-in-front : (sheet buffer after : List ℕ) (count : ℕ) → textRoom ≤ length buffer → Printed sheet buffer after count
     → (take count after ≡ textOf sheet) × (drop count after ≡ drop count buffer)
-unfolding written countIn overlaid
+unfolding bufferAfter countIn overlaid
 text-in-front sheet buffer after count h p =
     let long : count ≡ length (textOf sheet) = rw (le-ltb (length buffer) textRoom h, countIn) at (p .counts) in
     let lies : after ≡ textOf sheet ++ drop (0 + length (textOf sheet)) buffer =
-    rw (le-ltb (length buffer) textRoom h, written) at (p .holds) in
+    rw (le-ltb (length buffer) textRoom h, bufferAfter) at (p .holds) in
     let same : 0 + length (textOf sheet) ≡ length (textOf sheet) = omega arith in (
       rw (lies, long) (take-append-seam (textOf sheet) (drop (0 + length (textOf sheet)) buffer)),
       rw (lies, long, drop-append-seam (textOf sheet) (drop (0 + length (textOf sheet)) buffer), same) refl,
@@ -56,9 +56,9 @@ text-in-front sheet buffer after count h p =
 -- of one that is too short: it is as it was, and none of its bytes is the text
 pub nothing-written : (sheet buffer after : List ℕ) (count : ℕ) → length buffer < textRoom → Printed sheet buffer after count
     → (after ≡ buffer) × (count ≡ 0)
-unfolding written countIn
+unfolding bufferAfter countIn
 nothing-written sheet buffer after count h p =
-    (rw (lt-ltb (length buffer) textRoom h, written) at (p .holds), rw (lt-ltb (length buffer) textRoom h, countIn) at (p .counts))
+    (rw (lt-ltb (length buffer) textRoom h, bufferAfter) at (p .holds), rw (lt-ltb (length buffer) textRoom h, countIn) at (p .counts))
 
 -- two outcomes that meet the contract are the same
 pub one-printing : (sheet buffer a b : List ℕ) (m n : ℕ) → Printed sheet buffer a m → Printed sheet buffer b n → (a ≡ b) × (m ≡ n)

@@ -4,8 +4,8 @@ use mathlib.Core.Path.{_≡_, refl}
 use mathlib.Core.List.{List, [], _∷_, _++_}
 use Rattle.windows.specs.Computing.{answers-compute}
 use Rattle.sheet.specs.Computing.{sheets-compute}
-use Rattle.lines.specs.Words.{ascii}
-use Rattle.lines.specs.Decimal.{digitsIn, decimal}
+use Rattle.printing.specs.Words.{ascii}
+use Rattle.printing.specs.Decimal.{digitsIn, decimal}
 use Rattle.lines.specs.Lines.{firstLine, rowLine, rowLines, shownLine, notShownLine, refusedLine}
 use Rattle.text.specs.Text.{boundLines, judgedText, sheetText, outcomeText, textOf}
 

@@ -6,7 +6,7 @@ use mathlib.Core.List.{List}
 use lib.Dec.{ltb}
 use lib.ListN.{length, take}
 use Rattle.quantities.specs.Limits.{rowCapacity}
-use Rattle.lines.specs.Buffer.{overlaid}
+use Rattle.printing.specs.Buffer.{overlaid}
 use Rattle.lines.specs.Lines.{lineRoom}
 use Rattle.text.specs.Text.{textOf}
 
@@ -16,8 +16,8 @@ textRoom = (rowCapacity + 2) * lineRoom
 
 -- what a lent buffer holds afterwards: the text at its front and what it held behind; one that is too short
 -- as it was
-unfoldable pub written : List ℕ → List ℕ → List ℕ
-written text buffer = elim (ltb (length buffer) textRoom) [ true ↦ buffer | false ↦ overlaid buffer 0 text ]
+unfoldable pub bufferAfter : List ℕ → List ℕ → List ℕ
+bufferAfter text buffer = elim (ltb (length buffer) textRoom) [ true ↦ buffer | false ↦ overlaid buffer 0 text ]
 
 -- how many bytes of a lent buffer are the text: none of one that is too short
 unfoldable pub countIn : List ℕ → List ℕ → ℕ
@@ -27,7 +27,7 @@ countIn text buffer = elim (ltb (length buffer) textRoom) [ true ↦ 0 | false �
 -- text. These are within it, as whoever lends them on asks; and a buffer with room enough has it for the
 -- whole text.
 pub record Printed (sheet buffer after : List ℕ) (count : ℕ) : Type 0 where
-  pub holds : after ≡ written (textOf sheet) buffer
+  pub holds : after ≡ bufferAfter (textOf sheet) buffer
   pub counts : count ≡ countIn (textOf sheet) buffer
   pub enough : textRoom ≤ length buffer → length (textOf sheet) ≤ textRoom
   pub within : count ≤ length after

@@ -14,7 +14,7 @@ use Rattle.sheet.specs.declared.Outcome.{Outcome}
 use Rattle.sheet.specs.declared.Verdict.the-variants.{Sound, Refused as Unread}
 use Rattle.lines.specs.Lines.{firstLine, rowLines, shownLine, notShownLine, refusedLine}
 
--- the first line of a sheet with so many rows, and the lines of the first k of them
+-- the first line of a sheet with this many rows, and the lines of the first k of them
 abbrev pub linesUpTo : Sheet → ℕ → List ℕ → ℕ → List ℕ
 linesUpTo sheet rows bounds k = firstLine (sheet .cores) (sheet .tick .0) rows ++ rowLines (sheet .tick) (sheet .entries) bounds k
 

@@ -16,7 +16,7 @@ ghost use lib.ListN.{length};
 ghost use Rattle.quantities.specs.Limits.{rowCapacity};
 ghost use Rattle.quantities.specs.Paper.{faultPaper};
 ghost use Rattle.quantities.specs.Lengths.{numbers};
-ghost use Rattle.lines.specs.Buffer.{Puts};
+ghost use Rattle.printing.specs.Buffer.{Puts};
 ghost use Rattle.lines.specs.Lines.{lineRoom};
 ghost use Rattle.text.specs.Text.{linesUpTo, paperLine, sheetText};
 ghost use Rattle.text.specs.Printed.{textRoom, Printed};
@@ -36,7 +36,7 @@ fn put_fault(out: &mut [u8], fault: Fault) -> usize
     }
 }
 
-// The first line of a sheet with so many rows, and the lines of the first `count` of them.
+// The first line of a sheet with this many rows, and the lines of the first `count` of them.
 fn put_bound_lines(
     out: &mut [u8],
     sheet: Sheet,

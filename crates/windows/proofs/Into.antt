@@ -1,4 +1,4 @@
--- Laws of the answer whose bounds go into a list with so many entries: which of checks 1 to 7 decides.
+-- Laws of the answer whose bounds go into a list with this many entries: which of checks 1 to 7 decides.
 use Prim.Native.Nat.{ℕ, suc, _≤_, _<_}
 use native.Mathlib.Omega.{arith}
 use mathlib.Core.Path.{_≡_, ap}

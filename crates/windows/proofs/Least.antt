@@ -103,7 +103,7 @@ outcome-unique (nothing none-in) (found {x} q) = absurd (none-in x (q .low) (q .
 outcome-unique (found {x} p) (nothing none-in) = absurd (none-in x (p .low) (p .high) (p .holds))
 outcome-unique (found {x} p) (found {x = y} q) = ap some (least-unique x y p q)
 
--- the first of so many numbers is the least of them
+-- the first of this many numbers is the least of them
 first-outcome : (test : ℕ → Bool) (count from to : ℕ) → count ≡ suc to - from
     → Outcome (Passed test) from to (firstOf test count from)
 unfolding firstOf

@@ -22,7 +22,7 @@ pub record Judged : Type 0 where
 abbrev pub lateNumber : ℕ
 lateNumber = 8
 
--- the answer to so many rows when these are the bounds up to the first row that has none
+-- the answer to this many rows when these are the bounds up to the first row that has none
 unfoldable pub verdict : ℕ → List ℕ → Judged
 verdict count bounds =
     record {

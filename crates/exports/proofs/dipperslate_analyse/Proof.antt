@@ -11,8 +11,8 @@ use Rattle.quantities.specs.declared.Table.{Table}
 use Rattle.quantities.proofs.Rows.{length-rows}
 use Rattle.windows.specs.Answer.{Judged, judgedInto, answerPaper}
 use Rattle.windows.specs.declared.Answer.{Answer}
-use Rattle.lentrows.specs.Loaded.{tableOf}
-use Rattle.lentrows.specs.Lent.{firstOf, toldOf}
+use Rattle.lentrows.specs.Loaded.{loadedTable}
+use Rattle.lentrows.specs.Lent.{frontReplaced, toldOf}
 use Rattle.lentrows.specs.declared.Told.{Told}
 use Rattle.exports.specs.Exported.{rowsFrom, codeOf, FitsCode, Exported}
 use Rattle.lentrows.proofs.Loaded.{into-loaded}
@@ -22,7 +22,7 @@ use borrow.Author.Needs.{needs}
 use Rattle.exports.proofs.dipperslate_analyse.Statement.{statement}
 use Rattle.exports.proofs.dipperslate_analyse.Tie as tie
 
-module _ (cores entries : ℕ) (rows : List Row) (table : Table) (loads : table ≡ tableOf rows) where
+module _ (cores entries : ℕ) (rows : List Row) (table : Table) (loads : table ≡ loadedTable rows) where
   -- the table's answer is the rows' answer
   same : judgedInto cores entries (rowsOf table) ≡ judgedInto cores entries rows
   same = ap (λ (t : Table). judgedInto cores entries (rowsOf t)) loads ∙ into-loaded rows cores entries
@@ -30,10 +30,10 @@ module _ (cores entries : ℕ) (rows : List Row) (table : Table) (loads : table 
   answer-fits : (answer : Answer) → answer ≡ judgedInto cores entries (rowsOf table) .answer → FitsCode answer
   answer-fits answer is =
       rw (is, loads)
-      (omega (arith, into-place cores entries (rowsOf (tableOf rows)), length-rows (tableOf rows), loaded-count (length rows) rows))
+      (omega (arith, into-place cores entries (rowsOf (loadedTable rows)), length-rows (loadedTable rows), loaded-count (length rows) rows))
 
   exported : (told : Told) → told ≡ toldOf (judgedInto cores entries (rowsOf table))
-      → (before after : List ℕ) → after ≡ firstOf (told .shown) (numbers (told .bounds)) before
+      → (before after : List ℕ) → after ≡ frontReplaced (told .shown) (numbers (told .bounds)) before
       → (r : ℕ) → r ≡ codeOf (answerPaper (told .answer))
       → Exported (judgedInto cores entries rows) before after r
   unfolding toldOf

@@ -10,7 +10,7 @@ use borrow.Author.Needs.{needs}
 use Rattle.quantities.specs.Table.{withRow, emptyTable}
 use Rattle.quantities.specs.declared.Table.{Table}
 use Rattle.quantities.proofs.Rows.{with-row-fits, with-row-full}
-use Rattle.lentrows.specs.Loaded.{loaded, tableOf}
+use Rattle.lentrows.specs.Loaded.{loaded, loadedTable}
 use Rattle.exports.specs.Exported.{rowFrom, rowsFrom}
 use Rattle.exports.proofs.load.Statement.{statement}
 use Rattle.exports.proofs.load.Tie as tie
@@ -34,7 +34,7 @@ loading-next rows table next i h now e =
     }
 
 loading-all : (rows : List (List ℕ)) (table : Table) (i : ℕ) → length rows ≤ i → Loading rows table i
-    → table ≡ tableOf (rowsFrom rows)
+    → table ≡ loadedTable (rowsFrom rows)
 loading-all rows table i over now =
     let all : i ≡ length (rowsFrom rows) = omega (arith, length-map rows rowFrom) in
     now .holds ∙ ap (λ k. loaded k (rowsFrom rows)) all

@@ -8,7 +8,7 @@ use lib.ListN.{length, set, getD, length-map, length-set, List·getD-map}
 use Rattle.quantities.specs.Limits.{rowCapacity}
 use Rattle.quantities.specs.Lengths.{ticks, numbers}
 use Rattle.quantities.specs.declared.Ticks.{Ticks}
-use Rattle.lentrows.specs.Lent.{firstOf}
+use Rattle.lentrows.specs.Lent.{frontReplaced}
 use Rattle.lentrows.proofs.Written.{first-next}
 use borrow.Author.Needs.{needs}
 use Rattle.exports.proofs.write_bounds.Statement.{statement}
@@ -21,7 +21,7 @@ record Wrote (n : ℕ) (found : List Ticks) (before : List ℕ) (i : ℕ) (after
   long : length found ≡ rowCapacity
   within : i ≤ n
   same : length after ≡ length before
-  holds : after ≡ firstOf i (numbers found) before
+  holds : after ≡ frontReplaced i (numbers found) before
 
 -- one entry more
 wrote-next : (n : ℕ) (found : List Ticks) (before : List ℕ) (i : ℕ) (after : List ℕ) → i < n → Wrote n found before i after
@@ -85,7 +85,7 @@ returns c =
     let a = c .before .before .before .before .args in
     let l = c .before .before .loop in
     let over : l .i ≡ a .told .shown = omega (arith, l .inv .within) in
-    l .inv .holds ∙ ap (λ (k : ℕ). firstOf k (numbers (a .told .bounds)) (a .bounds .now)) over
+    l .inv .holds ∙ ap (λ (k : ℕ). frontReplaced k (numbers (a .told .bounds)) (a .bounds .now)) over
 
 pub write-bounds-spec : {M : Type 1} → statement M
 write-bounds-spec =

@@ -1,4 +1,4 @@
--- run leaves the bench as a history of so many ticks does: a loop that lends it again to each tick, and has it back.
+-- run leaves the bench as a history of this many ticks does: a loop that lends it again to each tick, and has it back.
 use mathlib.Core.Path.{_≡_, refl, sym, ap, subst, _∙_}
 use Prim.Native.Nat.{ℕ, zero, suc, _+_, _-_, _≤_, _<_, _^_, zero-le}
 use native.Mathlib.Nat.{le-antisymm, lt-of-le-of-lt}

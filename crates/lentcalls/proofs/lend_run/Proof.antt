@@ -1,4 +1,4 @@
--- lend_run gives the bench after so many ticks: it lends a local to lentbench's run for a lifetime of its own, and has it back.
+-- lend_run gives the bench after this many ticks: it lends a local to lentbench's run for a lifetime of its own, and has it back.
 use mathlib.Core.Path.{_≡_, refl, subst}
 use Prim.Native.Nat.{ℕ}
 use mathlib.Core.List.{[], _∷_}

@@ -43,8 +43,8 @@ use Rattle.quantities.specs.Limits.{rowCapacity}
 use Rattle.quantities.specs.Table.{rowsOf}
 use Rattle.quantities.specs.Lengths.{numbers}
 use Rattle.windows.specs.Answer.{judgedInto}
-use Rattle.lentrows.specs.Loaded.{loaded, tableOf}
-use Rattle.lentrows.specs.Lent.{LentAnalysis, firstOf, toldOf}
+use Rattle.lentrows.specs.Loaded.{loaded, loadedTable}
+use Rattle.lentrows.specs.Lent.{LentAnalysis, frontReplaced, toldOf}
 use Rattle.lentrows.proofs.Loaded.{into-loaded}
 use Rattle.lentrows.proofs.Written.{told-fits, lent-analysis}
 use Rattle.quantities.specs.declared.Row.{Row}
@@ -100,7 +100,7 @@ unit-typed : (u : Val) → u ∷ [] ≡ vunit ∷ [] → Holds (hasTy tyUnit u) 
 unit-typed u e = subst (λ (w : Val). Holds (hasTy tyUnit w) × WT w) (sym (head-eq-of-cons-eq e)) (tt, tt)
 
 -- what is told of the loaded table is told of the list
-of-list : (cores entries : ℕ) (ys : List Row) (t : Table) (r : Told) → t ≡ tableOf ys
+of-list : (cores entries : ℕ) (ys : List Row) (t : Table) (r : Told) → t ≡ loadedTable ys
     → r ≡ toldOf (judgedInto cores entries (rowsOf t)) → r ≡ toldOf (judgedInto cores entries ys)
 of-list cores entries ys t r e f =
     f ∙ ap toldOf (ap (λ (x : Table). judgedInto cores entries (rowsOf x)) e ∙ into-loaded ys cores entries)
@@ -206,7 +206,7 @@ module _ {M : Type 1} (𝓤 : URA M) (H : Heap 𝓤) (A : Atoms 𝓤) (W : Given
         use2 W (raw (Load 𝓤 H A mem run .pre to-load)) goes-load $
         calls-at ! fm (Load 𝓤 H A mem run) known-load to-load (and-then ! (load′ ! (from ! (stop !)) (look ! 20 refl)) (and-then ! (load′ ! (from ! (stop !)) (look ! 12 refl)) (no-more !))) (λ v.
         use1 W (later (some (λ (t : Table). ((‵ (flft κ q) ⊛ ‵ ftrue) ⊛ ‵ (T.the-row .own t (v ∷ []))) ⊛ raw (ensured 𝓤 H A load.ended (load.clauses 𝓤 H A mem run) (κ, tt) (xs, (n, tt)) tt t)))) (id⊢ 𝓤 _) $ await ! tt $ pick ! (λ t.
-        split ! $ move ! (1 ∷ []) $ use1 W (raw (fact 𝓤 (t ≡ tableOf ys))) (loaded-of 𝓤 H A mem run κ xs n t) $ heard ! (t ≡ tableOf ys) (λ e. split ! $ split ! $ move ! (2 ∷ []) $
+        split ! $ move ! (1 ∷ []) $ use1 W (raw (fact 𝓤 (t ≡ loadedTable ys))) (loaded-of 𝓤 H A mem run κ xs n t) $ heard ! (t ≡ loadedTable ys) (λ e. split ! $ split ! $ move ! (2 ∷ []) $
         -- [what t owns; rows's token; true; what rows owns; what bounds owns; bounds's token; true; true; _9; …]
         peeks ! T.the-row (Is T.the-row) (shows 𝓤 H A T.the-row) t (v ∷ []) (λ it.
         land ! (from ! (stop !)) (init ! 18 refl (LL.lawful T.the-type T′.the-laws 𝓤 H A W .typed t _ it .0)) $
@@ -225,8 +225,8 @@ module _ {M : Type 1} (𝓤 : URA M) (H : Heap 𝓤) (A : Atoms 𝓤) (W : Given
         -- [pre; rows's token; true; what rows owns; true; true; _9; …]
         calls-at ! fm (Put 𝓤 H A mem run) known-put (to-put r) (and-then ! (load′ ! (from ! (stop !)) (look ! 14 refl)) (and-then ! (load′ ! (from ! (stop !)) (look ! 6 refl)) (no-more !))) (λ u.
         use1 W (later (some (λ (z : Unit {0}). ((‵ (flft κ′ q′) ⊛ ‵ ftrue) ⊛ ‵ (Nothing .own z (u ∷ []))) ⊛ raw (ensured 𝓤 H A put.ended (put.clauses 𝓤 H A mem run) (κ′, tt) (r, (zs, tt)) tt z)))) (id⊢ 𝓤 _) $ await ! tt $ pick ! (λ z.
-        split ! $ move ! (1 ∷ []) $ use1 W (some (λ (us : Unit {0} × (List Ticks × Unit {0})). ‵ (lasts put.ended (κ′, tt) (r, (zs, tt)) us) ⊛ raw (fact 𝓤 (us .1 .0 ≡ firstOf (r .shown) (r .bounds) bs)))) (id⊢ 𝓤 _) $ pick ! (λ us.
-        split ! $ move ! (1 ∷ []) $ heard ! (us .1 .0 ≡ firstOf (r .shown) (r .bounds) bs) (λ h. fsplit ! $ drop ! $ fsplit ! $ fsplit ! $ move ! (1 ∷ []) $ feqL ! (λ k.
+        split ! $ move ! (1 ∷ []) $ use1 W (some (λ (us : Unit {0} × (List Ticks × Unit {0})). ‵ (lasts put.ended (κ′, tt) (r, (zs, tt)) us) ⊛ raw (fact 𝓤 (us .1 .0 ≡ frontReplaced (r .shown) (r .bounds) bs)))) (id⊢ 𝓤 _) $ pick ! (λ us.
+        split ! $ move ! (1 ∷ []) $ heard ! (us .1 .0 ≡ frontReplaced (r .shown) (r .bounds) bs) (λ h. fsplit ! $ drop ! $ fsplit ! $ fsplit ! $ move ! (1 ∷ []) $ feqL ! (λ k.
         -- [the last list; true; the token and the result; rows's token; true; what rows owns; true; true; _9; …]
         move ! (2 ∷ []) $ split ! $ move ! (1 ∷ []) $ feqL ! (λ p.
         land ! (from ! (stop !)) (init ! 12 refl (unit-typed u p)) $

@@ -1,4 +1,4 @@
--- answer_for tells what the rules say of the table's rows where the bounds list has so many entries.
+-- answer_for tells what the rules say of the table's rows where the bounds list has this many entries.
 use Prim.Native.Nat.{ℕ, _≤_, _<_}
 use native.Mathlib.Omega.{arith}
 use mathlib.Core.Path.{_≡_, sym, ap, _∙_}

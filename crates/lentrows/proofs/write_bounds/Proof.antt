@@ -51,7 +51,7 @@ use denote.Triple.Walked.{says, needs, Stays, stay-slice, stay-none, walkOf, Wal
 use Rattle.quantities.specs.Limits.{rowCapacity}
 use Rattle.quantities.specs.Lengths.{ticks}
 use Rattle.quantities.specs.declared.Ticks.{Ticks}
-use Rattle.lentrows.specs.Lent.{firstOf}
+use Rattle.lentrows.specs.Lent.{frontReplaced}
 use Rattle.lentrows.specs.declared.Told.{Told}
 use Rattle.lentrows.proofs.Written.{first-next, first-long}
 use Rattle.quantities.proofs.Ticks as K
@@ -124,7 +124,7 @@ module _ {M : Type 1} (𝓤 : URA M) (H : Heap 𝓤) (A : Atoms 𝓤) (W : Given
 
   -- the list after i entries are written, a reference to it, and what that owns
   abbrev list-at : ℕ → List Ticks
-  list-at i = firstOf i (told .bounds) ys
+  list-at i = frontReplaced i (told .bounds) ys
 
   abbrev ref : List Ticks → RefT (List Ticks)
   ref zs = record { ptr = (b, o); name = γ; now = zs }

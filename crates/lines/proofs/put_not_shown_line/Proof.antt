@@ -2,7 +2,7 @@
 use native.Mathlib.Omega.{arith}
 use lib.ListN.{length-append}
 use Rattle.lines.specs.Lines.{notShownLine}
-use Rattle.lines.proofs.Buffer.{puts-then}
+use Rattle.printing.proofs.Buffer.{puts-then}
 use borrow.Author.Needs.{needs}
 use Rattle.lines.proofs.put_not_shown_line.Statement.{statement}
 use Rattle.lines.proofs.put_not_shown_line.Tie as tie

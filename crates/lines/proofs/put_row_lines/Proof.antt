@@ -1,4 +1,4 @@
--- put_row_lines lays row lines one behind the other; the invariant: so many of them lie there.
+-- put_row_lines lays row lines one behind the other; the invariant: that many of them lie there.
 use Prim.Native.Nat.{ℕ, _+_, _-_, _*_, _≤_, _<_}
 use native.Mathlib.Omega.{arith}
 use native.Mathlib.Numerals.{add-one}
@@ -12,9 +12,9 @@ use Rattle.quantities.specs.declared.Micros.{Micros}
 use Rattle.quantities.specs.declared.Ticks.{Ticks}
 use Rattle.records.specs.declared.RowFields.{RowFields}
 use Rattle.sheet.specs.Entries.{rowIn, noEntry}
-use Rattle.lines.specs.Buffer.{Puts}
+use Rattle.printing.specs.Buffer.{Puts}
 use Rattle.lines.specs.Lines.{rowLine, rowLines, lineRoom}
-use Rattle.lines.proofs.Buffer.{puts-nothing, puts-then, length-puts}
+use Rattle.printing.proofs.Buffer.{puts-nothing, puts-then, length-puts}
 use Rattle.lines.proofs.put_row_lines.Statement.{statement}
 use Rattle.lines.proofs.put_row_lines.Tie as tie
 

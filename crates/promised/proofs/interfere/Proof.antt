@@ -1,7 +1,7 @@
 -- interfere answers as windows::interference does.
 use mathlib.Core.Path.{ap, _∙_}
 use Rattle.quantities.specs.declared.Ticks.{Ticks}
-use Rattle.promises.proofs.Windows.{formulas-answered}
+use Rattle.rowpages.proofs.Windows.{formulas-answered}
 use borrow.Author.Needs.{needs}
 use Rattle.promised.proofs.interfere.Statement.{statement}
 use Rattle.promised.proofs.interfere.Tie as tie

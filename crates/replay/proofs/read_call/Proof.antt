@@ -2,7 +2,7 @@
 use native.Mathlib.Omega.{arith}
 use mathlib.Core.Path.{sym, ap}
 use lib.ListN.{drop, length-drop}
-use Rattle.replay.specs.Format.{readOf}
+use Rattle.replay.specs.Format.{requestRead}
 use Rattle.replay.proofs.Format.{request-short, request-tick, request-release, request-unknown}
 use borrow.Author.Needs.{needs}
 use Rattle.replay.proofs.read_call.Statement.{statement}
@@ -12,19 +12,19 @@ sub-if1 : tie.Need-sub-if1
 sub-if1 c = search needs
 
 returns : tie.Need-returns
-unfolding readOf
+unfolding requestRead
 returns c =
     let a = c .before .before .args in
-    sym (ap readOf (request-short (drop (a .at) (a .calls .now)) (omega (arith, length-drop (a .at) (a .calls .now)))))
+    sym (ap requestRead (request-short (drop (a .at) (a .calls .now)) (omega (arith, length-drop (a .at) (a .calls .now)))))
 
 shared-slice-read-kind : tie.Need-shared-slice-read-kind
 shared-slice-read-kind c = search needs
 
 returns-2 : tie.Need-returns-2
-unfolding readOf
+unfolding requestRead
 returns-2 c =
     let a = c .before .before .before .before .args in
-    sym (ap readOf (request-tick (a .calls .now) (a .at) (omega arith) (c .if2 .taken)))
+    sym (ap requestRead (request-tick (a .calls .now) (a .at) (omega arith) (c .if2 .taken)))
 
 add-place-in : tie.Need-add-place-in
 add-place-in c = search needs
@@ -90,7 +90,7 @@ add-demand-3 : tie.Need-add-demand-3
 add-demand-3 c = search needs
 
 returns-3 : tie.Need-returns-3
-unfolding readOf
+unfolding requestRead
 returns-3 c =
     let w3 = c .before .before in
     let w2 = w3 .before .before in
@@ -99,14 +99,14 @@ returns-3 c =
     let t = p .before .before in
     let a = t .before .before .before .before .before .args in
     sym
-    (ap readOf
+    (ap requestRead
     (request-release (a .calls .now) (a .at) (omega arith) (t .before .if2 .left) (t .if3 .taken) _ _ _ _ _ (p .place-in .ensures) (w1 .wide .ensures .0) (w2 .wide2 .ensures .0) (w3 .wide3 .ensures .0) (c .wide4 .ensures .0)))
 
 returns-4 : tie.Need-returns-4
-unfolding readOf
+unfolding requestRead
 returns-4 c =
     let a = c .before .before .before .before .before .args in
-    sym (ap readOf (request-unknown (a .calls .now) (a .at) (omega arith) (c .before .if2 .left) (c .if3 .left)))
+    sym (ap requestRead (request-unknown (a .calls .now) (a .at) (omega arith) (c .before .if2 .left) (c .if3 .left)))
 
 pub read-call-spec : {M : Type 1} → statement M
 read-call-spec =

@@ -1,7 +1,7 @@
 -- put_bound_lines lays the first line, and the row lines behind it.
 use native.Mathlib.Omega.{arith}
 use lib.ListN.{length-append}
-use Rattle.lines.proofs.Buffer.{puts-then}
+use Rattle.printing.proofs.Buffer.{puts-then}
 use borrow.Author.Needs.{needs}
 use Rattle.text.proofs.put_bound_lines.Statement.{statement}
 use Rattle.text.proofs.put_bound_lines.Tie as tie

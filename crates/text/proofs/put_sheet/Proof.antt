@@ -1,7 +1,7 @@
 -- put_sheet lays the text of a sheet, by the cases of its answer.
 use native.Mathlib.Omega.{arith}
 use lib.ListN.{length-append}
-use Rattle.lines.proofs.Buffer.{puts-then}
+use Rattle.printing.proofs.Buffer.{puts-then}
 use Rattle.text.proofs.Text.{Analysed, count-shown, text-shown, place-not-shown, text-not-shown, text-refused}
 use borrow.Author.Needs.{needs}
 use Rattle.text.proofs.put_sheet.Statement.{statement}

@@ -1,0 +1,5 @@
+-- The proofs of the pages of the order sheet.
+pub mod SheetsChecks
+pub mod SheetsRows
+pub mod Sheets
+pub mod SheetRecords

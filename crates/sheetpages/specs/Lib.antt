@@ -1,0 +1,3 @@
+-- The pages of the order sheet in bytes.
+pub mod Sheets
+pub mod SheetRecords
