@@ -45,7 +45,8 @@ pub record CanSearch (table : Table) (k : ℕ) : Type 0 where
   pub short-cost : cost (rowOfIndex (rowsOf table) k) ≤ largestGap
   pub short-deadline : deadline (rowOfIndex (rowsOf table) k) ≤ largestWindow
 
--- The most that the rows take with m carriers, when one row more comes with this load; `mosts` has it for the rows so far.
+-- The most that the rows take with m carriers, when one row more comes with this load; `mosts` has it for the rows so
+-- far.
 unfoldable pub raisedAt : List ℕ → (without carrying : ℕ) → ℕ → ℕ
 raisedAt mosts without carrying zero = without + getD mosts 0 0
 raisedAt mosts without carrying (suc m) = max (without + getD mosts (suc m) 0) (carrying + getD mosts m 0)

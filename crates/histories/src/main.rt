@@ -1,6 +1,6 @@
 // Reads many histories from standard input, runs each on a bench and writes how it went, for a comparison with another
-// program. A frame is a two-byte length, most significant byte first, and that many bytes: cores (1), number of rows (1),
-// C, D and T of each row in ticks (4 each), then the calls as docs/REPLAY.md says. It ends with the input.
+// program. A frame is a two-byte length, most significant byte first, and that many bytes: cores (1), number of rows
+// (1), C, D and T of each row in ticks (4 each), then the calls as docs/REPLAY.md says. It ends with the input.
 ghost use Rattle.io.specs.Counts.{Counts};
 use libc::STDIN_FILENO;
 use libc::STDOUT_FILENO;

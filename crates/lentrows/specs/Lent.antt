@@ -12,8 +12,8 @@ use Rattle.windows.specs.declared.Answer.the-variants.{Shown, NotShown, Refused
 use Rattle.quantities.specs.Lengths.{numbers, inArray}
 use Rattle.lentrows.specs.declared.Told.{Told}
 
--- The answer is the one judged, and the list, read as numbers of ticks, is left with the bounds that come with it in its
--- first entries.
+-- The answer is the one judged, and the list, read as numbers of ticks, is left with the bounds that come with it in
+-- its first entries.
 pub record LentAnalysis (judged : Judged) (before after : List ℕ) (answer : Answer) : Type 0 where
   pub answers : answer ≡ judged .answer
   pub leaves : after ≡ boundsAfter judged before

@@ -1,4 +1,4 @@
-//! The analysis on the caller's own list of rows, which is only read, with the bounds written into a list that the caller lends.
+//! The analysis on the caller's own list of rows, which is only read, with the bounds written into a lent list.
 ghost use mathlib.Core.Path.{_≡_};
 ghost use Prim.Native.Nat.{_≤_, _<_};
 ghost use mathlib.Core.List.{[]};

@@ -27,7 +27,8 @@ rowLine place label bound d = decimal place ++ worded " " label ++ worded " " bo
 unfoldable pub rowLines : Micros → List RowFields → List ℕ → ℕ → List ℕ
 rowLines tick entries bounds zero = []
 rowLines tick entries bounds (suc k) = rowLines tick entries bounds k
-    ++ rowLine (suc k) (getD entries k noEntry .label) (getD bounds k 0) (deadline (rowIn tick (getD entries k noEntry)))
+    ++ rowLine (suc k) (getD entries k noEntry .label) (getD bounds k 0)
+    (deadline (rowIn tick (getD entries k noEntry)))
 
 -- every row has its bound
 unfoldable pub shownLine : List ℕ

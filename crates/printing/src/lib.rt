@@ -6,7 +6,7 @@ ghost use Rattle.printing.specs.Decimal.{decimal, numberRoom};
 ghost use Rattle.printing.specs.Buffer.{Puts};
 
 // The digits of a number: those of its tenth, then the last.
-pub fn put_digits(out: &mut [u8], at: usize, n: u64) -> usize
+fn put_digits(out: &mut [u8], at: usize, n: u64) -> usize
     requires { ⌜ at + length (decimal n) ≤ length (now out) ⌝ }
     ensures { λ r. ⌜ Puts (now (out .entry)) at (decimal n) (now (out .exit)) r ⌝ }
 {

@@ -23,10 +23,12 @@ use Rattle.rowpages.specs.Lists.{FaultyListTurnedAway, RefusedListHasFault, Tak
 use Rattle.rowpages.specs.Lists.{CoresTo16, RowsTo32, GapsTo1000000}
 use Rattle.rowpages.specs.Tables.{NamedLimits, TableMade, TableChecked}
 use Rattle.rowpages.specs.Lent.{Lending, lent, LentAnswered, LentTurnedAway, RefusedLentHasFault}
-use Rattle.rowpages.specs.Lent.{OfLengths, LentJudged, OneLent, ByValue, ToldFor, TripleIsRow, TriplesInOrder, CallersInC}
+use Rattle.rowpages.specs.Lent.{OfLengths, LentJudged, OneLent, ByValue, ToldFor}
+use Rattle.rowpages.specs.Lent.{TripleIsRow, TriplesInOrder, CallersInC}
 use Rattle.benchpages.specs.Calls.{BrokenExactly, Gives29, CallTurnedAway, CallTaken, RefusedCallHasFault}
 use Rattle.benchpages.specs.Calls.{GapPermitted, FirstReleasePermitted, OpeningRefused, OpeningTaken}
-use Rattle.benchpages.specs.Calls.{RefusedChangesNothing, OpenedHolds, RefusalNumbers, ClockTo1000000000, EndedListed, CallsAnswered}
+use Rattle.benchpages.specs.Calls.{RefusedChangesNothing, OpenedHolds, RefusalNumbers}
+use Rattle.benchpages.specs.Calls.{ClockTo1000000000, EndedListed, CallsAnswered}
 use Rattle.benchpages.specs.CallBytes.{RequestsRead, RequestsDone, PollComesBack, PollsFit, AnswerComesBack}
 use Rattle.benchpages.specs.CallBytes.{ReplayAnswered, ReplayNoRoom, ReplayNotOpened}
 use Rattle.benchpages.specs.Moves.{ReleaseStarts, NoOtherRelease, TickServes, NoOtherTick}

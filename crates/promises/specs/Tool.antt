@@ -73,7 +73,9 @@ pub data TextOf (cores tick : ℕ) (entries : List RowFields) (rows : List Row) 
       → TextOf cores tick entries rows text
   all-shown : (bounds : List ℕ) → ListInRange cores rows
       → JudgedBy cores rows (record { answer = Shown; bounds = bounds })
-      → text ≡ firstText cores tick (length entries) ++ rowTexts entries rows bounds (length entries) ++ ascii "all shown\n"
+      → text
+      ≡ firstText cores tick (length entries) ++ rowTexts entries rows bounds (length entries)
+      ++ ascii "all shown\n"
       → TextOf cores tick entries rows text
   not-shown : (before : ℕ) (bounds : List ℕ) → ListInRange cores rows
       → JudgedBy cores rows (record { answer = NotShown 8 (suc before); bounds = bounds })

@@ -54,7 +54,8 @@ roomChecks entries rows = check 7 0 (ltb entries (length rows)) ∷ []
 -- a failed check as a fault: of the whole list at place 0, else of the row at its place
 unfoldable pub faultFrom : Option Paper → Option Fault
 faultFrom none = none
-faultFrom (some one) = elim (one .place) [ zero ↦ some (WholeList (one .number)) | suc p ↦ some (OneRow (one .number) (suc p)) ]
+faultFrom (some one) =
+    elim (one .place) [ zero ↦ some (WholeList (one .number)) | suc p ↦ some (OneRow (one .number) (suc p)) ]
 
 -- the fault of the row at a place, if it has one: checks 3 to 6
 abbrev pub rowFault : (place : ℕ) (last : Bool) → Row → Option Fault

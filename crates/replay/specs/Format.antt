@@ -14,7 +14,8 @@ use Rattle.bench.specs.Step.{Step}
 use Rattle.replay.specs.declared.Read.{Read}
 use Rattle.replay.specs.declared.Read.the-variants.{Nothing, Call}
 
--- the request of six bytes: 2 for a tick, 1 for a release at a place with a demand of four bytes, most significant first
+-- the request of six bytes: 2 for a tick, 1 for a release at a place with a demand of four bytes, most significant
+-- first
 unfoldable pub requestOf : (kind place first second third fourth : ℕ) → Option Request
 requestOf kind place first second third fourth =
     elim (eqb kind 2) [

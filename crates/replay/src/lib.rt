@@ -24,7 +24,8 @@ pub enum Read {
     Call(Request),
 }
 
-// How a replay ended: all calls answered, in this many bytes; no bench; no call, or no room for its answer, at a byte of the calls.
+// How a replay ended: all calls answered, in this many bytes; no bench; no call, or no room for its answer, at a byte
+// of the calls.
 pub enum Replayed {
     Done(usize),
     NotOpened(Fault),

@@ -1,4 +1,4 @@
--- The promise of the tool, a bound met exactly, rows below that change nothing, the replay, and the parts that are needed.
+-- The promise of the tool, a bound met exactly, rows below that change nothing, the replay, the parts needed.
 pub mod Running
 pub mod Exact
 pub mod Below

@@ -26,8 +26,9 @@ use Rattle.bench.specs.Step.{Step, opened, unless, started, release, tick}
 use Rattle.bench.specs.History.{Call, releases, ticks, doCall, after}
 use Rattle.running.specs.Running.{boundAt, OverInTime, EndsInTime, NotUnfinished}
 
--- What the promise rests on: the ticks of a window x in which one row above can hold up a row with this own cost, how many
--- rows carry in on M cores, where the carry-in of a row with cost c is cut, what is promised of a bound, and the board.
+-- What the promise rests on: the ticks of a window x in which one row above can hold up a row with this own cost, how
+-- many rows carry in on M cores, where the carry-in of a row with cost c is cut, what is promised of a bound, and the
+-- board.
 pub record Parts : Type 0 where
   pub held-up : (own x : ℕ) → ℕ
   pub carry-in : (M : ℕ) → ℕ
@@ -78,8 +79,8 @@ pub record Keeps (b : Bench) (step : Step) (place bound : ℕ) : Type 0 where
   pub ends-in-time : EndsInTime place bound step
   pub not-unfinished : NotUnfinished place step
 
--- Demand 3 for these parts: whatever calls are made on a bench that was opened, what is promised of the bound of a row that
--- has one is kept there and in the next call.
+-- Demand 3 for these parts: whatever calls are made on a bench that was opened, what is promised of the bound of a
+-- row that has one is kept there and in the next call.
 abbrev pub InTime : Parts → Type 0
 InTime p =
     (cores : ℕ) (table : Table) (start : Bench) → opened cores table ≡ some start → (calls : List Call) (call : Call)
@@ -112,13 +113,13 @@ early b (releases place demand) =
     b
 early b ticks = tick b
 
--- The parts of documents 000 and 01: interference is limited by x − C + 1, at most M − 1 rows carry in, carry-in is cut at
--- C − 1, the bound itself is promised, and the board is the bench.
+-- The parts of documents 000 and 01: interference is limited by x − C + 1, at most M − 1 rows carry in, carry-in is
+-- cut at C − 1, the bound itself is promised, and the board is the bench.
 abbrev pub ours : Parts
 ours = parts (λ own x. x - own + 1) (λ M. M - 1) (λ c. c - 1) (λ bound. bound) doCall
 
--- The promise holds for our parts, with the bounds of crates/windows and the histories of crates/bench: nothing is said of
--- a copy.
+-- The promise holds for our parts, with the bounds of crates/windows and the histories of crates/bench: nothing is
+-- said of a copy.
 pub record HoldsForOurs : Type 0 where
   pub bounds : (M : ℕ) (rows : List Row) → boundsBy ours M [] rows ≡ boundsBelow M [] rows
   pub histories : (b : Bench) (calls : List Call) → afterBy ours b calls ≡ after b calls
@@ -126,7 +127,8 @@ pub record HoldsForOurs : Type 0 where
 
 -- The same with one part changed: the bound lowered by one; interference limited by x − C; one carry-in row too few;
 -- carry-in cut at C − 2; a tick that idles when fewer than M rows have work; a gap counted one short; and the two fake
--- benches of document 01, one that serves rightly in its first tick and idles later, and one that invents response times.
+-- benches of document 01, one that serves rightly in its first tick and idles later, and one that invents response
+-- times.
 abbrev pub changed : List Parts
 changed =
     parts (λ own x. x - own + 1) (λ M. M - 1) (λ c. c - 1) (λ bound. bound - 1) doCall

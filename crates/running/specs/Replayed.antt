@@ -15,8 +15,8 @@ use Rattle.replay.specs.Format.{answersJoined}
 use Rattle.replay.specs.Replay.{requestsIn, replay}
 use Rattle.running.specs.Running.{boundsOf, boundAt, EndsInTime, NotUnfinished}
 
--- A replay wrote the answers to its first calls and no other byte; in these answers each row with a bound ends its polls
--- within it, and none is 21 for such a row.
+-- A replay wrote the answers to its first calls and no other byte; in these answers each row with a bound ends its
+-- polls within it, and none is 21 for such a row.
 pub record WritesInTime (cores : ℕ) (table : Table) (start : Bench) (calls out : List ℕ) : Type 0 where
   pub done : List Request
   pub left : List Request

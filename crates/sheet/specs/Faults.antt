@@ -37,7 +37,8 @@ pub data ReadTo (sheet : List ℕ) : Reading → ℕ → Type 0 where
       → isEnd (recordAt sheet at) ≡ false
       → ReadTo sheet (afterRecord reading (recordAt sheet at)) (at + sizeAt sheet at)
 
--- The rows that a reading knows are those of the sheet up to a place: a board record, then row records, each entered once.
+-- The rows that a reading knows are those of the sheet up to a place: a board record, then row records, each entered
+-- once.
 pub record RowsRead (sheet : List ℕ) (reading : Reading) (at : ℕ) : Type 0 where
   pub board : List ℕ
   pub rows : List (List ℕ)

@@ -24,7 +24,8 @@ WholeExactly =
     (sheet : List ℕ)
     → (readOf sheet .verdict ≡ Sound → MadeOf sheet) × (MadeOf sheet → readOf sheet .verdict ≡ Sound)
 
--- Four sentences about a reader of sheets; ours, `readOf`, keeps them. Its answer has the board's cores and tick length.
+-- Four sentences about a reader of sheets; ours, `readOf`, keeps them. Its answer has the board's cores and tick
+-- length.
 abbrev pub BoardAnswered : (List ℕ → Outcome) → Type 0
 BoardAnswered read =
     (sheet : List ℕ) (made : MadeOf sheet)
@@ -60,7 +61,8 @@ NoTableRefused =
     (sheet : List ℕ) (number place : ℕ)
     → readOf sheet .verdict ≡ Refused number place → readOf sheet ≡ refused number place
 
--- A sheet with a fault is turned away by its first one, with the number and the place of the failing check, and no table.
+-- A sheet with a fault is turned away by its first one, with the number and the place of the failing check, and no
+-- table.
 abbrev pub FaultySheetTurnedAway : Type 0
 FaultySheetTurnedAway =
     (sheet : List ℕ) (one : Paper) → FirstFault sheet one

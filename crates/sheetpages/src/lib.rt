@@ -1,1 +1,1 @@
-//! No code: the pages of the promises about the order sheet stand in specs/, and proofs/ proves each sentence under its name.
+//! No code: the promises' pages about the order sheet stand in specs/; proofs/ proves each sentence under its name.

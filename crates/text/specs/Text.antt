@@ -16,7 +16,9 @@ use Rattle.lines.specs.Lines.{firstLine, rowLines, shownLine, notShownLine, ref
 
 -- the first line of a sheet with this many rows, and the lines of the first k of them
 abbrev pub linesUpTo : Sheet → ℕ → List ℕ → ℕ → List ℕ
-linesUpTo sheet rows bounds k = firstLine (sheet .cores) (sheet .tick .0) rows ++ rowLines (sheet .tick) (sheet .entries) bounds k
+linesUpTo sheet rows bounds k =
+    firstLine (sheet .cores) (sheet .tick .0) rows
+    ++ rowLines (sheet .tick) (sheet .entries) bounds k
 
 -- the first line, and the lines of the rows that have a bound
 unfoldable pub boundLines : Sheet → List Row → List ℕ → List ℕ

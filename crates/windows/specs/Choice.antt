@@ -63,7 +63,8 @@ abbrev pub Passes : (M own : ℕ) → List Bounded → ℕ → Type 0
 Passes M own above x =
     (choice : List Bool) → Permitted M above choice → total (loads own x above) choice < M * limit own x
 
--- The most that the rows can take when at most m of them carry in. Every choice's total is at most this, and one attains it.
+-- The most that the rows can take when at most m of them carry in. Every choice's total is at most this, and one
+-- attains it.
 unfoldable pub most : List Load → ℕ → ℕ
 most [] m = 0
 most (l ∷ ls) zero = l .without + most ls zero

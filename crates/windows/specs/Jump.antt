@@ -7,12 +7,13 @@ use Rattle.quantities.specs.Row.{cost, gap}
 use Rattle.windows.specs.Window.{carry}
 use Rattle.windows.specs.Choice.{Bounded, load, loads, most}
 
--- The row's own cost and one core's share of what the rows above take in the window x. No window from x to before it passes.
+-- The row's own cost and one core's share of what the rows above take in the window x. No window from x to before it
+-- passes.
 unfoldable pub next : (M own : ℕ) → List Bounded → ℕ → ℕ
 next M own above x = own + most (loads own x above) (M - 1) / M
 
--- How far the window x can grow with a row above taking every tick of it, whether or not the row carries in: without, until
--- its present poll is over; with carry-in, until the window is no longer what limits it.
+-- How far the window x can grow with a row above taking every tick of it, whether or not the row carries in: without,
+-- until its present poll is over; with carry-in, until the window is no longer what limits it.
 unfoldable pub room : (own x : ℕ) → Bounded → ℕ
 room own x b =
     min

@@ -1,4 +1,4 @@
--- The starred numbers of document 01, "Numbers to check by hand": one list of claims about the definitions, and that all hold.
+-- The starred numbers of document 01, "Numbers to check by hand": one list of claims about the definitions; all hold.
 use Prim.Native.Nat.{ℕ}
 use mathlib.Core.Path.{_≡_, refl}
 use mathlib.Core.List.{List, [], _∷_}
@@ -58,4 +58,5 @@ a & b = (a, b)
 pub starred : Each (λ claim. claim) claims
 unfolding answers-compute
 starred =
-    refl & refl & refl & refl & refl & refl & refl & refl & refl & refl & refl & refl & refl & refl & refl & refl & refl & refl & refl & refl & refl & tt
+    refl & refl & refl & refl & refl & refl & refl & refl & refl & refl & refl
+    & refl & refl & refl & refl & refl & refl & refl & refl & refl & refl & tt
