@@ -54,7 +54,7 @@ unread number place = record { verdict = Refused number place; sheet = noSheet; 
 unfoldable pub ended : Sheet → ℕ → FirstSheet
 ended sheet end = record { verdict = Sound; sheet = sheet; end = end }
 
--- the first sheet on the bytes of a reading that stands at a place, with the part from there on, in at most so
+-- the first sheet on the bytes of a reading that stands at a place, with the part from there on, in at most this
 -- many records; each record takes a byte or more, so that a limit of more records than bytes is never met
 unfoldable pub firstFrom : (limit : ℕ) → Reading → (at : ℕ) → List ℕ → FirstSheet
 firstFrom zero reading at part = unread 11 at
