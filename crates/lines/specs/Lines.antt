@@ -6,7 +6,7 @@ use lib.ListN.{getD}
 use Rattle.quantities.specs.Row.{deadline}
 use Rattle.quantities.specs.declared.Micros.{Micros}
 use Rattle.records.specs.declared.RowFields.{RowFields}
-use Rattle.sheet.specs.Entries.{rowIn, noEntry}
+use Rattle.entries.specs.Entries.{rowIn, noEntry}
 use Rattle.printing.specs.Words.{ascii}
 use Rattle.printing.specs.Decimal.{decimal}
 

@@ -1,11 +1,11 @@
 //! The lines of the program's text, put into a lent buffer; each function answers the next place.
+use entries::Sheet;
 use printing::put_number;
 use printing::put_word;
 use printing::put_worded;
 use quantities::Micros;
 use quantities::Table;
 use quantities::Ticks;
-use sheet::Sheet;
 ghost use Prim.Native.Nat.{_+_, _*_, _≤_};
 ghost use lib.ListN.{length};
 ghost use Rattle.printing.specs.Buffer.{Puts};

@@ -18,11 +18,11 @@ use Rattle.quantities.specs.declared.Micros.{Micros}
 use Rattle.quantities.specs.declared.Row.{Row}
 use Rattle.quantities.specs.declared.Table.{Table}
 use Rattle.records.specs.declared.RowFields.{RowFields}
-use Rattle.sheet.specs.declared.Sheet.{Sheet}
-use Rattle.sheet.specs.Entries.{ticksOf, rowIn, boardSheet, entriesOf, used, inserted, withEntry, tableIn, tableOf}
-use Rattle.sheet.proofs.Entries.{used-here, used-below}
-use Rattle.sheet.proofs.Order.{inserted-permuted, inserted-rising, length-inserted}
-use Rattle.sheet.proofs.Tables.{table-with-rows}
+use Rattle.entries.specs.declared.Sheet.{Sheet}
+use Rattle.entries.specs.Entries.{ticksOf, rowIn, boardSheet, entriesOf, used, inserted, withEntry, tableIn, tableOf}
+use Rattle.entries.proofs.Entries.{used-here, used-below}
+use Rattle.entries.proofs.Order.{inserted-permuted, inserted-rising, length-inserted}
+use Rattle.entries.proofs.Tables.{table-with-rows}
 use Rattle.sheetpages.proofs.Sheets.{rising-by-index, index-rising}
 use Rattle.sheetpages.proofs.SheetsRows.{rows-in-ticks}
 use Rattle.promised.specs.Promised.{entriesIn, NoEntries, Uses, UsedAnswer, OneEntryMore, EntryAnswer}

@@ -24,7 +24,7 @@ use Rattle.windows.specs.declared.Answer.the-variants.{Shown, NotShown, Refused
 use Rattle.records.specs.declared.Record.{Record}
 use Rattle.records.specs.declared.Record.the-variants.{Missing, Unknown, Cut, Board, Row as RowOf, End}
 use Rattle.records.specs.declared.RowFields.{RowFields}
-use Rattle.sheet.specs.declared.Sheet.{Sheet}
+use Rattle.entries.specs.declared.Sheet.{Sheet}
 use Rattle.sheet.specs.declared.Verdict.the-variants.{Sound as SoundSheet}
 use Rattle.sheet.specs.declared.Outcome.{Outcome}
 use Rattle.analysis.specs.declared.Analysis.{Analysis}

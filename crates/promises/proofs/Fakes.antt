@@ -18,7 +18,7 @@ use Rattle.windows.specs.Bound.{window, boundsBelow}
 use Rattle.windows.specs.Answer.{Judged, verdict, judgedAfter, judged}
 use Rattle.records.specs.Bytes.{numberAfter, field}
 use Rattle.records.specs.Records.{recordLength, rowFields, wholeRecord, recordOn, isRowKind, isEnd}
-use Rattle.sheet.specs.Entries.{ticksOf, rowIn, boardSheet, entriesOf, used, inserted, withEntry, tableWith, tableIn, tableOf}
+use Rattle.entries.specs.Entries.{ticksOf, rowIn, boardSheet, entriesOf, used, inserted, withEntry, tableWith, tableIn, tableOf}
 use Rattle.sheet.specs.Checks.{misplaced, boardChecks, endChecks, recordChecks, verdictOf}
 use Rattle.sheet.specs.Checks.{rowRecordChecks as recordRowChecks}
 use Rattle.sheet.specs.Reader.{noSheet, newReading, afterRecord, refused, whole, unread, ended, firstFrom, firstSheetOf, closed, readOf}

@@ -27,8 +27,8 @@ use Rattle.windows.specs.declared.Answer.the-variants.{Shown, NotShown}
 use Rattle.windows.specs.Answer.{Judged, judged}
 use Rattle.windows.proofs.Judgement.{judged-faulty}
 use Rattle.records.specs.declared.RowFields.{RowFields}
-use Rattle.sheet.specs.declared.Sheet.{Sheet}
-use Rattle.sheet.specs.Entries.{rowIn, noEntry, entriesOf, tableOf}
+use Rattle.entries.specs.declared.Sheet.{Sheet}
+use Rattle.entries.specs.Entries.{rowIn, noEntry, entriesOf, tableOf}
 use Rattle.sheet.specs.Reader.{readOf}
 use Rattle.sheet.proofs.Promises.{table-in-order}
 use Rattle.printing.specs.Words.{ascii}

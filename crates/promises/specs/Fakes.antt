@@ -11,7 +11,7 @@ use Rattle.quantities.specs.Row.{rowOf, noRow}
 use Rattle.quantities.specs.Table.{rowsOf}
 use Rattle.windows.specs.declared.Answer.the-variants.{Shown}
 use Rattle.windows.specs.Answer.{judged, judgedInto}
-use Rattle.sheet.specs.Entries.{entriesOf, tableOf}
+use Rattle.entries.specs.Entries.{entriesOf, tableOf}
 use Rattle.sheet.specs.Reader.{readOf}
 use Rattle.sheet.specs.declared.Verdict.the-variants.{Sound, Refused}
 use Rattle.text.specs.Text.{judgedText}

@@ -10,8 +10,8 @@ use Rattle.quantities.specs.declared.Row.{Row}
 use Rattle.laws.specs.Checks.{FirstFailing}
 use Rattle.windows.specs.declared.Answer.the-variants.{Shown, NotShown}
 use Rattle.records.specs.declared.RowFields.{RowFields}
-use Rattle.sheet.specs.declared.Sheet.{Sheet}
-use Rattle.sheet.specs.Entries.{entriesOf, tableOf}
+use Rattle.entries.specs.declared.Sheet.{Sheet}
+use Rattle.entries.specs.Entries.{entriesOf, tableOf}
 use Rattle.printing.specs.Words.{ascii}
 use Rattle.printing.specs.Decimal.{decimal}
 use Rattle.text.specs.Printed.{Printed}

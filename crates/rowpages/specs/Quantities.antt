@@ -9,7 +9,7 @@ use Rattle.quantities.specs.declared.Row.{Row}
 use Rattle.records.specs.declared.RowFields.{RowFields}
 use Rattle.records.specs.declared.Record.{Record}
 use Rattle.records.specs.declared.Record.the-variants.{Board}
-use Rattle.sheet.specs.declared.Sheet.{Sheet}
+use Rattle.entries.specs.declared.Sheet.{Sheet}
 use Rattle.analysis.specs.declared.Analysis.{Analysis}
 use Rattle.lentrows.specs.declared.Told.{Told}
 use Rattle.bench.specs.declared.Last.{Last}

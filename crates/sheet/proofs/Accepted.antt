@@ -10,11 +10,11 @@ use Rattle.laws.specs.Each.{Each}
 use Rattle.laws.specs.Permuted.{Permuted, as-is, keep, swap, both}
 use Rattle.laws.proofs.Permuted.{permuted-after, permuted-move}
 use Rattle.quantities.specs.Limits.{rowCapacity}
-use Rattle.sheet.specs.Entries.{used, inserted, insertedAll, Rising, Different}
+use Rattle.entries.specs.Entries.{used, inserted, insertedAll, Rising, Different}
 use Rattle.sheet.specs.Whole.{PriorityInRange}
 use Rattle.records.specs.declared.RowFields.{RowFields}
-use Rattle.sheet.proofs.Entries.{used-below}
-use Rattle.sheet.proofs.Order.{inserted-permuted, inserted-rising, length-inserted, unused-first, unused-rest}
+use Rattle.entries.proofs.Entries.{used-below}
+use Rattle.entries.proofs.Order.{inserted-permuted, inserted-rising, length-inserted, unused-first, unused-rest}
 
 -- new entries that are accepted after those that are there, in their order
 abbrev pub Accepted : List RowFields → List RowFields → Type 0

@@ -11,20 +11,20 @@ use Rattle.quantities.specs.declared.Micros.{Micros}
 use Rattle.records.specs.Records.{coresOn, tickOn, rowFields, recordOn, sizeOn, isEnd, RowRecord}
 use Rattle.records.specs.declared.Record.{Record}
 use Rattle.records.proofs.Parts.{board-long, end-long}
-use Rattle.sheet.specs.Entries.{entriesOf, insertedAll, sheetOf, Rising, Different}
+use Rattle.entries.specs.Entries.{entriesOf, insertedAll, sheetOf, Rising, Different}
 use Rattle.sheet.specs.Reader.{noSheet, newReading, afterRecord, refused, whole, readOf}
 use Rattle.sheet.specs.Whole.{joined, entriesOn, PriorityInRange, WholeSheet, bytesOf, MadeOf}
 use Rattle.records.specs.declared.RowFields.{RowFields}
-use Rattle.sheet.specs.declared.Sheet.{Sheet}
+use Rattle.entries.specs.declared.Sheet.{Sheet}
 use Rattle.sheet.specs.declared.Reading.{Reading}
 use Rattle.sheet.specs.declared.Verdict.{Verdict}
 use Rattle.sheet.specs.declared.Verdict.the-variants.{Sound, Refused}
 use Rattle.sheet.specs.declared.Outcome.{Outcome}
-use Rattle.sheet.proofs.Entries.{used-below}
+use Rattle.entries.proofs.Entries.{used-below}
 use Rattle.sheet.proofs.Checks.{sound-not-refused}
 use Rattle.sheet.proofs.Reader.{verdictAt, readFrom, behind, read-none, read-refused, read-whole, read-on, read-of}
-use Rattle.sheet.proofs.Order.{rising-permuted, unused-first, unused-rest}
-use Rattle.sheet.proofs.Sheets.{entries-of-sheet}
+use Rattle.entries.proofs.Order.{rising-permuted, unused-first, unused-rest}
+use Rattle.entries.proofs.Sheets.{entries-of-sheet}
 use Rattle.sheet.proofs.Accepted.{accepted-rising, all-permuted, used-permuted}
 use Rattle.sheet.proofs.Whole.{whole-read, whole-accepted, length-joined}
 use Rattle.sheet.proofs.Sound.{sound-made}

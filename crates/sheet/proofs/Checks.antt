@@ -16,9 +16,9 @@ use Rattle.records.specs.Records.{boardKind, rowKind, endKind, endLength, isEnd
 use Rattle.records.specs.declared.RowFields.{RowFields}
 use Rattle.records.specs.declared.Record.{Record}
 use Rattle.records.specs.declared.Record.the-variants.{Missing, Unknown, Cut, Board, Row, End}
-use Rattle.sheet.specs.Entries.{entriesOf, used}
+use Rattle.entries.specs.Entries.{entriesOf, used}
 use Rattle.sheet.specs.Checks.{topPriority, misplaced, boardChecks, rowRecordChecks, endChecks, recordChecks, ownChecks, verdictOf}
-use Rattle.sheet.specs.declared.Sheet.{Sheet}
+use Rattle.entries.specs.declared.Sheet.{Sheet}
 use Rattle.sheet.specs.declared.Reading.{Reading}
 use Rattle.sheet.specs.declared.Verdict.{Verdict}
 use Rattle.sheet.specs.declared.Verdict.the-variants.{Sound, Refused}

@@ -18,11 +18,11 @@ use Rattle.records.specs.declared.Record.{Record}
 use Rattle.records.specs.declared.Record.the-variants.{Missing, Unknown, Cut, Board, Row, End}
 use Rattle.records.proofs.Records.{Found, nothing, unknown, cut, board, row, end, found, size-board, length-most}
 use Rattle.records.proofs.Parts.{size-taken, on-taken}
-use Rattle.sheet.specs.Entries.{boardSheet, withEntry}
+use Rattle.entries.specs.Entries.{boardSheet, withEntry}
 use Rattle.sheet.specs.Checks.{misplaced, endChecks, recordChecks, verdictOf}
 use Rattle.sheet.specs.Reader.{newReading, noSheet, afterRecord, readOf}
 use Rattle.records.specs.declared.RowFields.{RowFields}
-use Rattle.sheet.specs.declared.Sheet.{Sheet}
+use Rattle.entries.specs.declared.Sheet.{Sheet}
 use Rattle.sheet.specs.declared.Reading.{Reading}
 use Rattle.sheet.specs.declared.Verdict.{Verdict}
 use Rattle.sheet.specs.declared.Verdict.the-variants.{Sound, Refused}

@@ -8,19 +8,19 @@ use Rattle.laws.proofs.Permuted.{permuted-length}
 use Rattle.quantities.specs.Limits.{rowCapacity}
 use Rattle.quantities.specs.Table.{rowsOf}
 use Rattle.quantities.specs.declared.Micros.{Micros}
-use Rattle.sheet.specs.Entries.{rowIn, entriesOf, tableIn, tableOf, sheetOf, Rising}
+use Rattle.entries.specs.Entries.{rowIn, entriesOf, tableIn, tableOf, sheetOf, Rising}
 use Rattle.sheet.specs.Reader.{noSheet, refused, whole, readOf, verdictPaper}
 use Rattle.records.specs.Records.{coresOn, tickOn}
 use Rattle.sheet.specs.Whole.{MadeOf}
 use Rattle.sheet.specs.Promises.{MissingAtTheEnd, WholeExactly, BoardAnswered, EachRowOnce, PrioritiesRise, TableInOrder, AnyOrder, NoTableRefused, FaultySheetTurnedAway, RefusedByFirstFault, AtMost550, First1024, OneOutcome}
 use Rattle.records.specs.declared.RowFields.{RowFields}
-use Rattle.sheet.specs.declared.Sheet.{Sheet}
+use Rattle.entries.specs.declared.Sheet.{Sheet}
 use Rattle.sheet.specs.declared.Verdict.{Verdict}
 use Rattle.sheet.specs.declared.Verdict.the-variants.{Sound, Refused}
 use Rattle.sheet.specs.declared.Outcome.{Outcome}
-use Rattle.sheet.proofs.Sheets.{board-sheet, entries-of-sheet}
+use Rattle.entries.proofs.Sheets.{board-sheet, entries-of-sheet}
 use Rattle.sheet.proofs.Faults.{missing-refused, first-fault-refused, refused-first-fault}
-use Rattle.sheet.proofs.Tables.{table-rows-in}
+use Rattle.entries.proofs.Tables.{table-rows-in}
 use Rattle.sheet.proofs.Whole.{length-entries}
 use Rattle.sheet.proofs.Sound.{sound-made}
 use Rattle.sheet.proofs.Answers.{arranged, arranged-rise, arranged-each-once, answer-made, made-sound, rows-each-once, sound-short, rows-in-any-order, refused-no-table}

@@ -16,7 +16,7 @@ use Rattle.records.proofs.Records.{Found, nothing, unknown, cut, board, row, en
 use Rattle.sheet.specs.Checks.{recordChecks, ownChecks, verdictOf}
 use Rattle.sheet.specs.Reader.{newReading, afterRecord, refused, whole}
 use Rattle.sheet.specs.Reader.{unread, ended, firstFrom, firstSheetOf, closed, readOf}
-use Rattle.sheet.specs.declared.Sheet.{Sheet}
+use Rattle.entries.specs.declared.Sheet.{Sheet}
 use Rattle.sheet.specs.declared.Reading.{Reading}
 use Rattle.sheet.specs.declared.Verdict.{Verdict}
 use Rattle.sheet.specs.declared.Verdict.the-variants.{Sound, Refused}

@@ -20,7 +20,7 @@ use Rattle.records.specs.Records.{recordOn, isEnd, OneRecord, RowRecord}
 use Rattle.records.specs.declared.Record.{Record}
 use Rattle.records.proofs.Records.{Found, nothing, unknown, cut, board, row, end, found, size-board}
 use Rattle.records.proofs.Parts.{front-board, front-cores, front-tick, front-row, front-fields}
-use Rattle.sheet.specs.Entries.{inserted, sheetOf}
+use Rattle.entries.specs.Entries.{inserted, sheetOf}
 use Rattle.sheet.specs.Checks.{misplaced, recordChecks, verdictOf}
 use Rattle.sheet.specs.Reader.{newReading, afterRecord}
 use Rattle.sheet.specs.Faults.{recordAt, sizeAt, checksAt, ReadTo, start, next, RowsRead, ReadToMeans}
@@ -28,10 +28,10 @@ use Rattle.sheet.specs.Whole.{joined, entriesOn}
 use Rattle.records.specs.declared.RowFields.{RowFields}
 use Rattle.sheet.specs.declared.Reading.{Reading}
 use Rattle.sheet.specs.declared.Verdict.the-variants.{Sound}
-use Rattle.sheet.proofs.Sheets.{board-sheet, entries-of-sheet, count-of-sheet}
+use Rattle.entries.proofs.Sheets.{board-sheet, entries-of-sheet, count-of-sheet}
 use Rattle.sheet.proofs.Checks.{sound-not-refused, missing-not-sound, unknown-not-sound, cut-not-sound}
 use Rattle.sheet.proofs.Checks.{board-misplaced, row-misplaced, row-placed, end-misplaced, sound-row}
-use Rattle.sheet.proofs.Order.{inserted-permuted, length-inserted}
+use Rattle.entries.proofs.Order.{inserted-permuted, length-inserted}
 use Rattle.sheet.proofs.Reader.{sound-within}
 use Rattle.sheet.proofs.Faults.{verdict-none}
 use Rattle.sheet.proofs.Whole.{rowsAt, rows-placed, after-row}

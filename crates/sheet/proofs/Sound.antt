@@ -13,7 +13,7 @@ use Rattle.records.specs.Records.{coresOn, tickOn, countOn, rowFields, recordOn
 use Rattle.records.specs.declared.Record.{Record}
 use Rattle.records.proofs.Records.{Found, nothing, unknown, cut, board, row, end, found, length-end}
 use Rattle.records.proofs.Parts.{front-board, front-tick, front-row, front-fields}
-use Rattle.sheet.specs.Entries.{used, inserted, sheetOf}
+use Rattle.entries.specs.Entries.{used, inserted, sheetOf}
 use Rattle.sheet.specs.Checks.{misplaced, recordChecks, verdictOf}
 use Rattle.sheet.specs.Reader.{newReading, refused, readOf}
 use Rattle.sheet.specs.Whole.{joined, entriesOn, PriorityInRange, MadeOf}
@@ -22,11 +22,11 @@ use Rattle.sheet.specs.declared.Reading.{Reading}
 use Rattle.sheet.specs.declared.Verdict.{Verdict}
 use Rattle.sheet.specs.declared.Verdict.the-variants.{Sound, Refused}
 use Rattle.sheet.specs.declared.Outcome.{Outcome}
-use Rattle.sheet.proofs.Sheets.{entries-of-sheet, count-of-sheet}
+use Rattle.entries.proofs.Sheets.{entries-of-sheet, count-of-sheet}
 use Rattle.sheet.proofs.Checks.{SoundRow, sound-not-refused, missing-not-sound, unknown-not-sound, cut-not-sound, board-misplaced, board-placed, row-misplaced, row-placed, end-misplaced, end-placed, sound-row, sound-end, sound-board}
 use Rattle.sheet.proofs.Accepted.{Accepted, acceptable}
 use Rattle.sheet.proofs.Reader.{verdictAt, readFrom, read-none, read-refused, read-of}
-use Rattle.sheet.proofs.Order.{length-inserted}
+use Rattle.entries.proofs.Order.{length-inserted}
 use Rattle.sheet.proofs.Whole.{rowsAt, board-fits, rows-placed, row-read, board-read, length-entries}
 
 -- where the answer is sound, so is the verdict on the record that stands there

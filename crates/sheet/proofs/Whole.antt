@@ -16,16 +16,16 @@ use Rattle.records.specs.declared.Record.the-variants.{Row}
 use Rattle.records.proofs.Records.{size-board}
 use Rattle.records.proofs.Parts.{on-row, fields-front, kind-front, size-front, board-front, end-alone}
 use Rattle.records.proofs.Parts.{board-long, row-long, end-long}
-use Rattle.sheet.specs.Entries.{used, inserted, insertedAll, withEntry, sheetOf}
+use Rattle.entries.specs.Entries.{used, inserted, insertedAll, withEntry, sheetOf}
 use Rattle.sheet.specs.Checks.{misplaced}
 use Rattle.sheet.specs.Reader.{newReading, afterRecord, whole, readOf}
 use Rattle.sheet.specs.Whole.{joined, entriesOn, WholeSheet, bytesOf}
 use Rattle.sheet.specs.declared.Reading.{Reading}
 use Rattle.sheet.specs.declared.Verdict.the-variants.{Sound}
-use Rattle.sheet.proofs.Sheets.{board-sheet, entries-of-sheet, count-of-sheet, sheet-with}
+use Rattle.entries.proofs.Sheets.{board-sheet, entries-of-sheet, count-of-sheet, sheet-with}
 use Rattle.sheet.proofs.Checks.{SoundRow, SoundEnd, board-placed, row-placed, end-placed, row-sound, end-sound, board-sound}
 use Rattle.sheet.proofs.Accepted.{Accepted, Fresh, accepted}
-use Rattle.sheet.proofs.Order.{length-inserted}
+use Rattle.entries.proofs.Order.{length-inserted}
 use Rattle.sheet.proofs.Reader.{verdictAt, readFrom, read-whole, read-on, read-of}
 
 -- the reading past the board record, with these entries so far

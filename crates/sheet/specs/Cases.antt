@@ -6,7 +6,7 @@ use lib.ListN.{replicate}
 use Rattle.quantities.specs.Row.{rowOf}
 use Rattle.quantities.specs.Table.{rowsOf}
 use Rattle.records.specs.declared.RowFields.{RowFields}
-use Rattle.sheet.specs.Entries.{noEntry, tableIn, tableOf}
+use Rattle.entries.specs.Entries.{noEntry, tableIn, tableOf}
 use Rattle.sheet.specs.Reader.{refused, whole, readOf}
 use Rattle.sheet.specs.Computing.{sheets-compute}
 use Rattle.sheet.specs.declared.Verdict.the-variants.{Sound}

@@ -12,8 +12,8 @@ use Rattle.quantities.specs.declared.Micros.{Micros}
 use Rattle.records.specs.Records.{boardKind, rowKind, endKind, endLength}
 use Rattle.records.specs.declared.Record.{Record}
 use Rattle.records.specs.declared.Record.the-variants.{Missing, Unknown, Cut, Board, Row, End}
-use Rattle.sheet.specs.Entries.{entriesOf, used}
-use Rattle.sheet.specs.declared.Sheet.{Sheet}
+use Rattle.entries.specs.Entries.{entriesOf, used}
+use Rattle.entries.specs.declared.Sheet.{Sheet}
 use Rattle.sheet.specs.declared.Reading.{Reading}
 use Rattle.sheet.specs.declared.Verdict.{Verdict}
 use Rattle.sheet.specs.declared.Verdict.the-variants.{Sound, Refused}

@@ -2,8 +2,8 @@
 use Rattle.quantities.specs.Computing.{checks-compute}
 use Rattle.records.specs.Bytes.{numberAfter, field}
 use Rattle.records.specs.Records.{recordLength, isRowKind, rowFields, wholeRecord, recordOn, isEnd}
-use Rattle.sheet.specs.Entries.{ticksOf, rowIn, boardSheet, entriesOf, used, inserted, withEntry}
-use Rattle.sheet.specs.Entries.{tableWith, tableIn, tableOf}
+use Rattle.entries.specs.Entries.{ticksOf, rowIn, boardSheet, entriesOf, used, inserted, withEntry}
+use Rattle.entries.specs.Entries.{tableWith, tableIn, tableOf}
 use Rattle.sheet.specs.Checks.{misplaced, boardChecks, rowRecordChecks, endChecks, recordChecks, verdictOf}
 use Rattle.sheet.specs.Reader.{noSheet, newReading, afterRecord, refused, whole, unread, ended}
 use Rattle.sheet.specs.Reader.{firstFrom, firstSheetOf, closed, readOf}

@@ -10,7 +10,7 @@ use Rattle.laws.specs.Permuted.{Permuted}
 use Rattle.laws.specs.Checks.{Check, FirstFailing}
 use Rattle.quantities.specs.Paper.{Paper, paper}
 use Rattle.records.specs.Records.{boardKind, tickOn, recordOn, sizeOn, isEnd, OneRecord, RowRecord}
-use Rattle.sheet.specs.Entries.{entriesOf}
+use Rattle.entries.specs.Entries.{entriesOf}
 use Rattle.sheet.specs.Whole.{joined, entriesOn}
 use Rattle.records.specs.declared.Record.{Record}
 use Rattle.sheet.specs.Checks.{recordChecks}

@@ -1,5 +1,4 @@
 -- The definitions of the order sheet, in the order in which they build on each other.
-pub mod Entries
 pub mod Checks
 pub mod Reader
 pub mod Computing

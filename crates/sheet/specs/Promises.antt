@@ -7,7 +7,7 @@ use Rattle.laws.specs.Permuted.{Permuted}
 use Rattle.quantities.specs.Paper.{Paper, paper}
 use Rattle.quantities.specs.Table.{rowsOf}
 use Rattle.quantities.specs.declared.Micros.{Micros}
-use Rattle.sheet.specs.Entries.{rowIn, entriesOf, tableIn, tableOf, Rising}
+use Rattle.entries.specs.Entries.{rowIn, entriesOf, tableIn, tableOf, Rising}
 use Rattle.sheet.specs.Reader.{noSheet, refused, readOf, verdictPaper}
 use Rattle.sheet.specs.Faults.{recordAt, ReadTo, FirstFault, FaultAt}
 use Rattle.records.specs.Records.{coresOn, tickOn}

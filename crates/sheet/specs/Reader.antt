@@ -8,9 +8,9 @@ use Rattle.quantities.specs.Paper.{Paper, paper, noRefusal}
 use Rattle.records.specs.Records.{recordOn, sizeOn, isEnd}
 use Rattle.records.specs.declared.Record.{Record}
 use Rattle.records.specs.declared.Record.the-variants.{Missing, Unknown, Cut, Board, Row, End}
-use Rattle.sheet.specs.Entries.{boardSheet, withEntry}
+use Rattle.entries.specs.Entries.{boardSheet, withEntry}
 use Rattle.sheet.specs.Checks.{ownChecks, verdictOf}
-use Rattle.sheet.specs.declared.Sheet.{Sheet}
+use Rattle.entries.specs.declared.Sheet.{Sheet}
 use Rattle.sheet.specs.declared.Reading.{Reading}
 use Rattle.sheet.specs.declared.Verdict.{Verdict}
 use Rattle.sheet.specs.declared.Verdict.the-variants.{Sound, Refused}

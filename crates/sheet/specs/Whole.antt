@@ -6,7 +6,7 @@ use lib.ListN.{length}
 use Rattle.laws.specs.Each.{Each}
 use Rattle.quantities.specs.Limits.{rowCapacity}
 use Rattle.records.specs.Records.{boardKind, endKind, tickOn, countOn, rowFields, OneRecord, RowRecord}
-use Rattle.sheet.specs.Entries.{Different}
+use Rattle.entries.specs.Entries.{Different}
 use Rattle.sheet.specs.Checks.{topPriority}
 use Rattle.records.specs.declared.RowFields.{RowFields}
 

@@ -1,7 +1,7 @@
 //! The checks of a record, in the order of document 01.
 use crate::Reading;
-use crate::Sheet;
 use crate::Verdict;
+use entries::Sheet;
 use quantities::Micros;
 use quantities::Table;
 use records::BOARD_KIND;

@@ -1,9 +1,8 @@
-//! The order sheet of document 01: the table that its rows give, and the reader.
+//! The order sheet of document 01: its reader.
+use entries::Sheet;
 use judge::check_record;
 use quantities::Micros;
-use quantities::Table;
 use records::Record;
-use records::RowFields;
 use records::is_end;
 use records::record_on;
 use records::size_on;
@@ -11,16 +10,6 @@ ghost use mathlib.Core.Path.{_≡_};
 ghost use Rattle.sheet.specs.Reader.{newReading, afterRecord, refused, unread, firstSheetOf, readOf};
 
 mod judge;
-mod rows;
-
-// A board and its rows in rising priority, as their records say them: the first `count` entries; the capacity is the
-// table's own.
-pub struct Sheet {
-    pub cores: u32,
-    pub tick: Micros,
-    pub count: usize,
-    pub entries: [RowFields; Table::ROW_CAPACITY],
-}
 
 // How far a sheet has been read: whether its board record was, and what the records so far gave.
 pub struct Reading {

@@ -1,9 +1,9 @@
 //! The written-out sheets of document 01 and some that are turned away, read and printed.
+use entries::Sheet;
 use libc::STDOUT_FILENO;
 use quantities::Table;
 use quantities::Ticks;
 use sheet::Outcome;
-use sheet::Sheet;
 use sheet::Verdict;
 
 fn wide(number: u32) -> u64 {

@@ -24,18 +24,18 @@ use Rattle.laws.proofs.Checks.{none-fails, first-failing, failing-behind}
 use Rattle.quantities.specs.declared.Micros.{Micros}
 use Rattle.records.specs.Records.{isEnd}
 use Rattle.records.proofs.Parts.{on-end}
-use Rattle.sheet.specs.Entries.{rowIn, noEntry, boardSheet, entriesOf, tableWith, tableIn, tableOf, sheetOf, Rising}
+use Rattle.entries.specs.Entries.{rowIn, noEntry, boardSheet, entriesOf, tableWith, tableIn, tableOf, sheetOf, Rising}
 use Rattle.sheet.specs.Reader.{noSheet, newReading, refused, whole, readOf, verdictPaper}
 use Rattle.records.specs.declared.RowFields.{RowFields}
-use Rattle.sheet.specs.declared.Sheet.{Sheet}
+use Rattle.entries.specs.declared.Sheet.{Sheet}
 use Rattle.sheet.specs.declared.Outcome.{Outcome}
 use Rattle.sheet.proofs.Checks.{sound-not-refused}
 use Rattle.sheet.proofs.Faults.{verdict-none, verdict-first, same-refusal}
 use Rattle.sheet.proofs.Reader.{reads-new, turn-refused, turn-whole}
-use Rattle.sheet.proofs.Order.{rising-permuted}
-use Rattle.sheet.proofs.Sheets.{entries-of-sheet}
+use Rattle.entries.proofs.Order.{rising-permuted}
+use Rattle.entries.proofs.Sheets.{entries-of-sheet}
 use Rattle.quantities.proofs.Rows.{rows-kept, with-row-fits}
-use Rattle.sheet.proofs.Tables.{table-rows}
+use Rattle.entries.proofs.Tables.{table-rows}
 use Rattle.sheetpages.specs.Sheets.{
   byte,
   behind,

@@ -20,7 +20,7 @@ use Rattle.records.specs.declared.Record.{Record}
 use Rattle.records.specs.declared.Record.the-variants.{Cut}
 use Rattle.records.proofs.Bytes.{field-one, field-two, field-four}
 use Rattle.records.proofs.Records.{Found, nothing, unknown, cut, board, row, end, found, row-kind, row-length}
-use Rattle.sheet.specs.Entries.{used, sheetOf}
+use Rattle.entries.specs.Entries.{used, sheetOf}
 use Rattle.sheet.specs.Checks.{misplaced, boardChecks, rowRecordChecks, endChecks, recordChecks, verdictOf}
 use Rattle.sheet.specs.Reader.{newReading}
 use Rattle.records.specs.declared.RowFields.{RowFields}
@@ -40,7 +40,7 @@ use Rattle.sheet.proofs.Checks.{
   end-misplaced,
   end-placed,
 }
-use Rattle.sheet.proofs.Sheets.{entries-of-sheet, count-of-sheet}
+use Rattle.entries.proofs.Sheets.{entries-of-sheet, count-of-sheet}
 use Rattle.sheet.proofs.Whole.{rowsAt, rows-placed}
 use Rattle.sheetpages.specs.Sheets.{
   byte,

@@ -16,7 +16,7 @@ use Rattle.records.specs.Records.{sizeOn, isRowKind, kindOn, rowFields, isEnd}
 use Rattle.records.proofs.Bytes.{field-one, field-two}
 use Rattle.records.proofs.Records.{size-board, is-row-kind, row-length}
 use Rattle.records.proofs.Parts.{on-board, on-row}
-use Rattle.sheet.specs.Entries.{ticksOf, rowIn, noEntry, used, inserted, Rising}
+use Rattle.entries.specs.Entries.{ticksOf, rowIn, noEntry, used, inserted, Rising}
 use Rattle.sheet.specs.Checks.{verdictOf}
 use Rattle.sheet.specs.Reader.{newReading, afterRecord}
 use Rattle.records.specs.declared.RowFields.{RowFields}
@@ -24,9 +24,9 @@ use Rattle.sheet.specs.declared.Reading.{Reading}
 use Rattle.sheet.proofs.Faults.{verdict-none}
 use Rattle.sheet.proofs.Reader.{verdictAt, Reads, reads-new, turn-on}
 use Rattle.sheet.proofs.Readings.{entered-more}
-use Rattle.sheet.proofs.Order.{inserted-permuted, inserted-rising}
+use Rattle.entries.proofs.Order.{inserted-permuted, inserted-rising}
 use Rattle.sheet.proofs.Accepted.{used-permuted}
-use Rattle.sheet.proofs.Sheets.{board-sheet}
+use Rattle.entries.proofs.Sheets.{board-sheet}
 use Rattle.sheet.proofs.Whole.{rowsAt, after-row}
 use Rattle.sheetpages.specs.Sheets.{
   byte,

@@ -13,10 +13,10 @@ use Rattle.quantities.specs.Checks.{check}
 use Rattle.quantities.specs.Paper.{Paper, paper}
 use Rattle.quantities.specs.declared.Row.{Row}
 use Rattle.quantities.specs.Table.{rowsOf}
-use Rattle.sheet.specs.Entries.{entriesOf, tableOf}
+use Rattle.entries.specs.Entries.{entriesOf, tableOf}
 use Rattle.sheet.specs.Reader.{readOf, verdictPaper}
 use Rattle.records.specs.declared.RowFields.{RowFields}
-use Rattle.sheet.specs.declared.Sheet.{Sheet}
+use Rattle.entries.specs.declared.Sheet.{Sheet}
 use Rattle.sheet.specs.declared.Verdict.the-variants.{Sound, Refused}
 use Rattle.sheet.specs.declared.Outcome.{Outcome}
 

@@ -24,10 +24,10 @@ use Rattle.windows.specs.declared.Answer.the-variants.{Shown, NotShown, Refused
 use Rattle.windows.proofs.Judgement.{judged-faulty, judged-means}
 use Rattle.analysis.specs.Analysis.{analysisOf}
 use Rattle.analysis.specs.declared.Analysis.{Analysis}
-use Rattle.sheet.specs.Entries.{tableOf}
+use Rattle.entries.specs.Entries.{tableOf}
 use Rattle.sheet.specs.Reader.{readOf}
 use Rattle.sheet.proofs.Promises.{first-1024}
-use Rattle.sheet.specs.declared.Sheet.{Sheet}
+use Rattle.entries.specs.declared.Sheet.{Sheet}
 use Rattle.sheet.specs.declared.Outcome.{Outcome}
 use Rattle.sheet.specs.declared.Verdict.{Verdict}
 use Rattle.sheet.specs.declared.Verdict.the-variants.{Sound, Refused as Unread}

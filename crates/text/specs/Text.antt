@@ -7,9 +7,9 @@ use Rattle.quantities.specs.declared.Row.{Row}
 use Rattle.quantities.specs.Paper.{Paper, faultPaper}
 use Rattle.windows.specs.Answer.{Judged, judged}
 use Rattle.windows.specs.declared.Answer.the-variants.{Shown, NotShown, Refused}
-use Rattle.sheet.specs.Entries.{noEntry, tableOf}
+use Rattle.entries.specs.Entries.{noEntry, tableOf}
 use Rattle.sheet.specs.Reader.{readOf}
-use Rattle.sheet.specs.declared.Sheet.{Sheet}
+use Rattle.entries.specs.declared.Sheet.{Sheet}
 use Rattle.sheet.specs.declared.Outcome.{Outcome}
 use Rattle.sheet.specs.declared.Verdict.the-variants.{Sound, Refused as Unread}
 use Rattle.lines.specs.Lines.{firstLine, rowLines, shownLine, notShownLine, refusedLine}

@@ -1,5 +1,6 @@
 //! The text of a sheet's answer, as the program prints it: document 01, "One sheet through the program".
 use analysis::analyse;
+use entries::Sheet;
 use lines::put_first_line;
 use lines::put_not_shown_line;
 use lines::put_refused_line;
@@ -8,7 +9,6 @@ use lines::put_shown_line;
 use quantities::Fault;
 use quantities::Table;
 use quantities::Ticks;
-use sheet::Sheet;
 use sheet::Verdict;
 use windows::Answer;
 ghost use Prim.Native.Nat.{_+_, _*_, _≤_};

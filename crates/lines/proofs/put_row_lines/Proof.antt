@@ -11,7 +11,7 @@ use Rattle.quantities.specs.Lengths.{ticks, numbers}
 use Rattle.quantities.specs.declared.Micros.{Micros}
 use Rattle.quantities.specs.declared.Ticks.{Ticks}
 use Rattle.records.specs.declared.RowFields.{RowFields}
-use Rattle.sheet.specs.Entries.{rowIn, noEntry}
+use Rattle.entries.specs.Entries.{rowIn, noEntry}
 use Rattle.printing.specs.Buffer.{Puts}
 use Rattle.lines.specs.Lines.{rowLine, rowLines, lineRoom}
 use Rattle.printing.proofs.Buffer.{puts-nothing, puts-then, length-puts}
