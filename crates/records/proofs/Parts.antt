@@ -84,6 +84,28 @@ module _ (part rest : List ℕ) where
       on-end (part ++ rest) (kind-front (omega arith) ∙ one .of-kind) (omega (arith, long-front))
       ∙ ap End (field-front 1 1 (omega arith))
 
+  -- a whole record is the same, whatever stands behind it
+  pub on-front : 0 < sizeOn part → sizeOn part ≤ length part → recordOn (part ++ rest) ≡ recordOn part
+  on-front some long = go (recordOn part) (found part)
+    where
+      filled : 0 < length part
+      filled = omega arith
+
+      go : (one : Record) → Found part one → recordOn (part ++ rest) ≡ one
+      go one (nothing none) = absurd (omega arith)
+      go one (unknown m none) = absurd (omega arith)
+      go one (cut m short) = absurd (omega arith)
+      go one (board kind enough) =
+          on-board (part ++ rest) (kind-front filled ∙ kind) (omega (arith, long-front))
+          ∙ rw (field-front 1 1 (omega arith), field-front 2 2 (omega arith))
+      go one (row is enough) =
+          let size = size-front filled in
+          on-row (part ++ rest) (ap isRowKind (kind-front filled) ∙ is) (omega (arith, long-front))
+          ∙ ap Row (fields-front is enough)
+      go one (end kind enough) =
+          on-end (part ++ rest) (kind-front filled ∙ kind) (omega (arith, long-front))
+          ∙ ap End (field-front 1 1 (omega arith))
+
 pub end-alone : (part : List ℕ) → OneRecord endKind part → recordOn part ≡ End (countOn part)
 end-alone part one =
     let l : length part ≡ endLength = one .in-full ∙ length-end in

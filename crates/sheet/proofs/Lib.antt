@@ -8,4 +8,5 @@ pub mod Whole
 pub mod Sound
 pub mod Answers
 pub mod Prefix
+pub mod First
 pub mod Promises

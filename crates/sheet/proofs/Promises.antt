@@ -9,10 +9,11 @@ use Rattle.quantities.specs.Limits.{rowCapacity}
 use Rattle.quantities.specs.Table.{rowsOf}
 use Rattle.quantities.specs.declared.Micros.{Micros}
 use Rattle.entries.specs.Entries.{rowIn, entriesOf, tableIn, tableOf, sheetOf, Rising}
-use Rattle.sheet.specs.Reader.{noSheet, refused, whole, readOf, verdictPaper}
+use Rattle.sheet.specs.Reader.{noSheet, refused, whole, firstSheetOf, readOf, verdictPaper}
 use Rattle.records.specs.Records.{coresOn, tickOn}
 use Rattle.sheet.specs.Whole.{MadeOf}
 use Rattle.sheet.specs.Promises.{MissingAtTheEnd, WholeExactly, BoardAnswered, EachRowOnce, PrioritiesRise, TableInOrder, AnyOrder, NoTableRefused, FaultySheetTurnedAway, RefusedByFirstFault, AtMost550, First1024, OneOutcome}
+use Rattle.sheet.specs.Promises.{FirstSheetIsWhole, WholeSheetIsFirst, FirstSheetRefused, RefusedBehindTheFirst}
 use Rattle.records.specs.declared.RowFields.{RowFields}
 use Rattle.entries.specs.declared.Sheet.{Sheet}
 use Rattle.sheet.specs.declared.Verdict.{Verdict}
@@ -25,6 +26,9 @@ use Rattle.sheet.proofs.Whole.{length-entries}
 use Rattle.sheet.proofs.Sound.{sound-made}
 use Rattle.sheet.proofs.Answers.{arranged, arranged-rise, arranged-each-once, answer-made, made-sound, rows-each-once, sound-short, rows-in-any-order, refused-no-table}
 use Rattle.sheet.proofs.Prefix.{read-first-bytes}
+use Rattle.sheet.proofs.Reader.{answer-refused}
+use Rattle.sheet.proofs.First.{first-within, first-alone, first-refused-whole, by-first, sound-first}
+use Rattle.sheet.proofs.First.{refused-by-first}
 
 pub whole-exactly : WholeExactly
 whole-exactly sheet = (sound-made sheet, made-sound sheet)
@@ -118,3 +122,19 @@ first-1024 = read-first-bytes
 
 pub one-outcome : OneOutcome
 one-outcome sheet a b p q = p ∙ sym q
+
+pub first-sheet-is-whole : FirstSheetIsWhole
+unfolding whole
+first-sheet-is-whole bytes s =
+    let alone = first-alone bytes s in
+    (first-within bytes s, alone, sound-made _ (ap (λ (o : Outcome). o .verdict) alone))
+
+pub whole-sheet-is-first : WholeSheetIsFirst
+whole-sheet-is-first = sound-first
+
+pub first-sheet-refused : FirstSheetRefused
+first-sheet-refused bytes number place e =
+    (first-refused-whole bytes number place e, sym (answer-refused bytes (firstSheetOf bytes) refl number place e))
+
+pub refused-behind-the-first : RefusedBehindTheFirst
+refused-behind-the-first bytes number place e = refused-by-first bytes (readOf bytes) (by-first bytes) number place e

@@ -51,17 +51,17 @@ sound-within at left reading part r (end e l) s =
 
 -- One record for the first sheet: it is refused, it is the end, or the reading goes on after it.
 module _ (limit : ℕ) (reading : Reading) (at : ℕ) (part : List ℕ) where
-  first-refused : (number place : ℕ) → ownVerdict at reading part ≡ Refused number place
+  pub first-refused : (number place : ℕ) → ownVerdict at reading part ≡ Refused number place
       → firstFrom (suc limit) reading at part ≡ unread number place
   unfolding firstFrom
   first-refused number place e = rw (e, firstFrom)
 
-  first-ended : ownVerdict at reading part ≡ Sound → isEnd (recordOn part) ≡ true
+  pub first-ended : ownVerdict at reading part ≡ Sound → isEnd (recordOn part) ≡ true
       → firstFrom (suc limit) reading at part ≡ ended (reading .sheet) (at + sizeOn part)
   unfolding firstFrom
   first-ended e last = rw (e, last, firstFrom)
 
-  first-on : ownVerdict at reading part ≡ Sound → isEnd (recordOn part) ≡ false
+  pub first-on : ownVerdict at reading part ≡ Sound → isEnd (recordOn part) ≡ false
       → firstFrom (suc limit) reading at part
       ≡ firstFrom limit (afterRecord reading (recordOn part)) (at + sizeOn part) (drop (sizeOn part) part)
   unfolding firstFrom

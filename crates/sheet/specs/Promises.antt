@@ -1,14 +1,15 @@
 -- What the reader promises of every sheet, a type for each sentence. proofs/Promises.antt proves each.
-use Prim.Native.Nat.{ℕ, _≤_}
+use Prim.Native.Nat.{ℕ, _≤_, _<_}
 use mathlib.Core.Path.{_≡_}
-use mathlib.Core.List.{List, map}
+use mathlib.Core.Logic.{_⊎_}
+use mathlib.Core.List.{List, _++_, map}
 use lib.ListN.{length, take}
 use Rattle.laws.specs.Permuted.{Permuted}
 use Rattle.quantities.specs.Paper.{Paper, paper}
 use Rattle.quantities.specs.Table.{rowsOf}
 use Rattle.quantities.specs.declared.Micros.{Micros}
 use Rattle.entries.specs.Entries.{rowIn, entriesOf, tableIn, tableOf, Rising}
-use Rattle.sheet.specs.Reader.{noSheet, refused, readOf, verdictPaper}
+use Rattle.sheet.specs.Reader.{noSheet, refused, whole, unread, ended, firstSheetOf, readOf, verdictPaper}
 use Rattle.sheet.specs.Faults.{recordAt, ReadTo, FirstFault, FaultAt}
 use Rattle.records.specs.Records.{coresOn, tickOn}
 use Rattle.sheet.specs.Whole.{entriesOn, WholeSheet, bytesOf, MadeOf}
@@ -91,3 +92,31 @@ First1024 = (sheet : List ℕ) → readOf (take 1024 sheet) ≡ readOf sheet
 -- What `read` ensures leaves one outcome.
 abbrev pub OneOutcome : Type 0
 OneOutcome = (sheet : List ℕ) (a b : Outcome) → a ≡ readOf sheet → b ≡ readOf sheet → a ≡ b
+
+-- The first sheet on some bytes: those up to its end are a whole sheet by themselves, with the same answer.
+abbrev pub FirstSheetIsWhole : Type 0
+FirstSheetIsWhole =
+    (bytes : List ℕ) → firstSheetOf bytes .verdict ≡ Sound
+    → (firstSheetOf bytes .end ≤ length bytes)
+    × (readOf (take (firstSheetOf bytes .end) bytes) ≡ whole (firstSheetOf bytes .sheet))
+    × MadeOf (take (firstSheetOf bytes .end) bytes)
+
+-- And a whole sheet is the first one, with its own end, whatever stands behind it.
+abbrev pub WholeSheetIsFirst : Type 0
+WholeSheetIsFirst =
+    (sheet rest : List ℕ) → readOf sheet .verdict ≡ Sound
+    → firstSheetOf (sheet ++ rest) ≡ ended (readOf sheet .sheet) (length sheet)
+
+-- Where no first sheet is read, the bytes as one sheet are refused by the same number and place.
+abbrev pub FirstSheetRefused : Type 0
+FirstSheetRefused =
+    (bytes : List ℕ) (number place : ℕ) → firstSheetOf bytes .verdict ≡ Refused number place
+    → (firstSheetOf bytes ≡ unread number place) × (readOf bytes ≡ refused number place)
+
+-- The bytes as one sheet are refused for nothing else but 18, at the end of the first sheet.
+abbrev pub RefusedBehindTheFirst : Type 0
+RefusedBehindTheFirst =
+    (bytes : List ℕ) (number place : ℕ) → readOf bytes .verdict ≡ Refused number place
+    → (firstSheetOf bytes .verdict ≡ Refused number place)
+    ⊎ ((firstSheetOf bytes .verdict ≡ Sound) × (firstSheetOf bytes .end < length bytes)
+    × (number ≡ 18) × (place ≡ firstSheetOf bytes .end))

@@ -1,5 +1,5 @@
 -- read_first answers the first sheet. The loop's invariant: what is read from here on is the first sheet.
-use Prim.Native.Nat.{_-_}
+use Prim.Native.Nat.{ℕ, _+_, _-_}
 use native.Mathlib.Omega.{arith}
 use mathlib.Core.Path.{_≡_, sym, ap, _∙_}
 use borrow.Author.Needs.{needs}
@@ -101,8 +101,8 @@ returns-2 c =
     let s = c .before .before .before in
     let t = s .before .before .before in
     let l = t .before .before .before .loop in
-    rw (size-is s)
-    (own-ended (t .before .before .before .before .before .before .args .bytes .now) (l .reading) (l .at) (l .inv)
+    ap (λ (size : ℕ). ended (l .reading .sheet) (l .at + size)) (size-is s)
+    ∙ (own-ended (t .before .before .before .before .before .before .args .bytes .now) (l .reading) (l .at) (l .inv)
     (sym (verdict-is t) ∙ s .before .enum-told .given .1)
     (ap isEnd (sym (found-is t)) ∙ sym (c .before .before .is-end .ensures) ∙ c .before .if1 .taken))
 
