@@ -3,6 +3,7 @@ use Prim.Native.Nat.{ℕ}
 use native.Mathlib.Omega.{arith}
 use native.Mathlib.Decide.{decLe}
 use mathlib.Core.Path.{_≡_, refl, sym, ap, subst, _∙_}
+use mathlib.Core.Logic.{_⊎_, inl, inr}
 use mathlib.Core.Bool.{Bool}
 use mathlib.Core.List.{List, [], _∷_, _++_}
 use mathlib.Core.Option.{none}
@@ -17,6 +18,8 @@ use Rattle.quantities.specs.Checks.{listChecks, roomChecks, listFault, lentFaul
 use Rattle.quantities.specs.Lengths.{numbers}
 use Rattle.quantities.proofs.Sound.{sound-list-means}
 use Rattle.windows.specs.Answer.{Judged, judged, judgedInto, answerPaper}
+use Rattle.windows.specs.declared.Answer.{Answer}
+use Rattle.windows.specs.declared.Answer.the-variants.{NotShown}
 use Rattle.windows.proofs.Into.{into-refused, into-room}
 use Rattle.records.specs.declared.Record.{Record}
 use Rattle.records.specs.declared.Record.the-variants.{Missing, Unknown, Cut, Board, Row as RowOf, End}
@@ -46,6 +49,7 @@ use Rattle.bench.proofs.Steps.{release-no-polls}
 use Rattle.replay.specs.declared.Replayed.{Replayed}
 use Rattle.replay.specs.Replay.{Replay, replay}
 use Rattle.rowpages.specs.Lists.{faultAt}
+use Rattle.rowpages.specs.Windows.{EveryRowShown, FirstRowNotShown, JudgedBy}
 use Rattle.rowpages.specs.Lent.{InEntries}
 use Rattle.benchpages.specs.Calls.{releaseOrder, tickOrder, ListsPolls}
 use Rattle.sheetpages.proofs.Sheets.{sheets-read, sheet-turned-away}
@@ -264,6 +268,18 @@ replay-answer cores table calls before after r is leaves =
           (ap (λ (p : Replay). p .answer) none, ap (λ (p : Replay). p .out) none);
     })
 
+-- a row that is not shown has number 8
+late-number : (cores : ℕ) (rows : List Row) (answer : Answer) (bounds : List ℕ) (number place : ℕ)
+    → JudgedBy cores rows (record { answer = answer; bounds = bounds }) → answer ≡ NotShown number place → number ≡ 8
+late-number cores rows answer bounds number place right e = go (right .ends)
+  where
+    j : Judged
+    j = record { answer = answer; bounds = bounds }
+
+    go : EveryRowShown rows j ⊎ FirstRowNotShown cores rows j → number ≡ 8
+    go (inl every) = let says = every .says in absurd (not-one cc)
+    go (inr late) = let says = late .says in cc
+
 pub answer-for-c : (cores : ℕ) (triples : List (List ℕ)) (before after : List ℕ) (code : ℕ)
     → Exported (judgedInto cores (length before) (rowsFrom triples)) before after code
     → AnswerForC cores (rowsFrom triples) before after code
@@ -273,11 +289,14 @@ answer-for-c cores triples before after code exported =
     let to-c = callers-in-c cores triples before after code exported in
     record {
       judges = λ range room.
+          let right = lent-judged cores rows before after (to-c .answer) (to-c .given) range room in
           record {
             answer = to-c .answer;
-            right = lent-judged cores rows before after (to-c .answer) (to-c .given) range room;
+            right = right;
             all-shown = λ e. to-c .coded ∙ rw e refl;
-            not-shown = λ place e. to-c .coded ∙ rw e refl;
+            not-shown = λ number place e.
+                let late = late-number cores rows (to-c .answer) _ number place (right .right) e in
+                (late, to-c .coded ∙ rw (e, late) refl);
           };
       faulty = λ one first.
           let turned = lent-turned-away cores rows before after (to-c .answer) one (to-c .given) first in

@@ -3,8 +3,8 @@ use Prim.Native.Nat.{ℕ, _+_, _<_}
 use native.Mathlib.Nat.{div-zero}
 use native.Mathlib.Omega.{arith}
 use native.Mathlib.Decide.{ℕ-discrete as decEq}
-use mathlib.Core.Path.{_≡_, refl, sym, ap, _∙_}
-use mathlib.Core.Logic.{inl, inr}
+use mathlib.Core.Path.{_≡_, refl, sym, ap, subst, _∙_}
+use mathlib.Core.Logic.{_⊎_, inl, inr}
 use mathlib.Core.Bool.{Bool, true, false}
 use mathlib.Core.List.{List, [], _∷_, map}
 use lib.ListN.{length, drop, replicate, length-take}
@@ -18,15 +18,57 @@ use Rattle.quantities.specs.declared.Micros.{Micros}
 use Rattle.quantities.specs.declared.Row.{Row}
 use Rattle.quantities.specs.declared.Table.{Table}
 use Rattle.records.specs.declared.RowFields.{RowFields}
+use Rattle.quantities.specs.Paper.{Paper}
 use Rattle.entries.specs.declared.Sheet.{Sheet}
+use Rattle.sheet.specs.declared.FirstSheet.{FirstSheet}
+use Rattle.sheet.specs.declared.Outcome.{Outcome}
+use Rattle.sheet.specs.declared.Verdict.the-variants.{Sound, Refused}
+use Rattle.sheet.specs.Reader.{refused, unread, ended, firstSheetOf, readOf}
 use Rattle.entries.specs.Entries.{ticksOf, rowIn, boardSheet, entriesOf, used, inserted, withEntry, tableIn, tableOf}
 use Rattle.entries.proofs.Entries.{used-here, used-below}
 use Rattle.entries.proofs.Order.{inserted-permuted, inserted-rising, length-inserted}
 use Rattle.entries.proofs.Tables.{table-with-rows}
-use Rattle.sheetpages.proofs.Sheets.{rising-by-index, index-rising}
+use Rattle.sheet.proofs.Promises.{whole-sheet-is-first, first-sheet-refused, refused-behind-the-first}
+use Rattle.sheetpages.specs.Sheets.{SheetRead, TurnedAway}
+use Rattle.sheetpages.proofs.Sheets.{sheets-read, sheet-turned-away, rising-by-index, index-rising}
 use Rattle.sheetpages.proofs.SheetsRows.{rows-in-ticks}
+use Rattle.promised.specs.Promised.{FirstSheetAnswer}
 use Rattle.promised.specs.Promised.{entriesIn, NoEntries, Uses, UsedAnswer, OneEntryMore, EntryAnswer}
 use Rattle.promised.specs.Promised.{RowsOfEntries, RowAnswer}
+
+pub first-sheet-answer : (bytes : List ℕ) (r : FirstSheet) → r ≡ firstSheetOf bytes → FirstSheetAnswer bytes r
+unfolding ended unread refused
+first-sheet-answer bytes r is =
+    record {
+      whole = λ sheet rest n w e.
+          let (sound, read) = sheets-read sheet n w in
+          let first : r ≡ ended (readOf sheet .sheet) (length sheet) =
+          is ∙ ap firstSheetOf e ∙ whole-sheet-is-first sheet rest sound in (
+            ap (λ (f : FirstSheet). f .verdict) first,
+            ap (λ (f : FirstSheet). f .end) first,
+            subst (SheetRead sheet n) (sym (ap (λ (f : FirstSheet). f .sheet) first)) read,
+          );
+      faulty = λ one fault other.
+          let turned = sheet-turned-away bytes one fault in
+          let refused-first = own-fault one other (refused-behind-the-first bytes _ _ (turned .answers)) in
+          let none = first-sheet-refused bytes (one .number) (one .place) refused-first in
+          let first : r ≡ unread (one .number) (one .place) = is ∙ none .0 in (
+            ap (λ (f : FirstSheet). f .end) first,
+            subst (TurnedAway (one .number) (one .place))
+                (none .1 ∙ sym (ap (λ (f : FirstSheet). outcomeOf f) first)) turned,
+          );
+    }
+  where
+    outcomeOf : FirstSheet → Outcome
+    outcomeOf f = record { verdict = f .verdict; sheet = f .sheet }
+
+    own-fault : (one : Paper) → (one .number ≡ 18 → ⊥)
+        → (firstSheetOf bytes .verdict ≡ Refused (one .number) (one .place))
+        ⊎ ((firstSheetOf bytes .verdict ≡ Sound) × (firstSheetOf bytes .end < length bytes)
+        × (one .number ≡ 18) × (one .place ≡ firstSheetOf bytes .end))
+        → firstSheetOf bytes .verdict ≡ Refused (one .number) (one .place)
+    own-fault one other (inl fault) = fault
+    own-fault one other (inr more) = absurd (other (more .2))
 
 pub no-entries : (cores : ℕ) (tick : Micros) (r : Sheet) → r ≡ boardSheet cores tick → NoEntries cores tick r
 unfolding boardSheet

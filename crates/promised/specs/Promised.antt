@@ -26,6 +26,7 @@ use Rattle.records.specs.declared.Record.the-variants.{Missing, Unknown, Cut, B
 use Rattle.records.specs.declared.RowFields.{RowFields}
 use Rattle.entries.specs.declared.Sheet.{Sheet}
 use Rattle.sheet.specs.declared.Verdict.the-variants.{Sound as SoundSheet}
+use Rattle.sheet.specs.declared.FirstSheet.{FirstSheet}
 use Rattle.sheet.specs.declared.Outcome.{Outcome}
 use Rattle.analysis.specs.declared.Analysis.{Analysis}
 use Rattle.lentrows.specs.declared.Told.{Told}
@@ -58,6 +59,14 @@ use Rattle.benchpages.specs.CallBytes.{answersTo, ReplayAnswers}
 pub record SheetAnswer (sheet : List ℕ) (r : Outcome) : Type 0 where
   pub whole : (n : ℕ) → WholeWith sheet n → (r .verdict ≡ SoundSheet) × SheetRead sheet n (r .sheet)
   pub faulty : (one : Paper) → FirstFault sheet one → TurnedAway (one .number) (one .place) r
+
+-- `sheet::read_first`: a sheet without fault is taken, with what stands on it and the place behind it, whatever bytes
+-- follow there; bytes with another first fault than 18, bytes after the end record, are turned away by it, with no end.
+pub record FirstSheetAnswer (bytes : List ℕ) (r : FirstSheet) : Type 0 where
+  pub whole : (sheet rest : List ℕ) (n : ℕ) → WholeWith sheet n → bytes ≡ sheet ++ rest
+      → (r .verdict ≡ SoundSheet) × (r .end ≡ length sheet) × SheetRead sheet n (r .sheet)
+  pub faulty : (one : Paper) → FirstFault bytes one → (one .number ≡ 18 → ⊥)
+      → (r .end ≡ 0) × TurnedAway (one .number) (one .place) (record { verdict = r .verdict; sheet = r .sheet })
 
 -- `text::print_answer`: the text of a sheet is at the front of a lent buffer of 2,856 bytes or more, and
 -- every later byte is as it was; a shorter buffer is as it was, and none of its bytes is the text.
@@ -269,7 +278,8 @@ pub record JudgedForC (cores : ℕ) (rows : List Row) (before after : List ℕ) 
   pub answer : Answer
   pub right : LentJudgement cores rows before after answer
   pub all-shown : answer ≡ Shown → code ≡ 0
-  pub not-shown : (place : ℕ) → answer ≡ NotShown 8 place → code ≡ 8 * 4294967296 + place
+  pub not-shown : (number place : ℕ) → answer ≡ NotShown number place
+      → (number ≡ 8) × (code ≡ 8 * 4294967296 + place)
 
 -- `dipperslate_analyse`: the number times 2 to the 32nd plus the place, and what the lent list is left with.
 pub record AnswerForC (cores : ℕ) (rows : List Row) (before after : List ℕ) (code : ℕ) : Type 0 where

@@ -17,10 +17,12 @@ use quantities::Ticks;
 use records::Record;
 use records::RowFields;
 use replay::Replayed;
+use sheet::FirstSheet;
 use sheet::Outcome;
 ghost use mathlib.Core.Path.{_≡_};
 ghost use Rattle.exports.specs.Exported.{rowsFrom};
-ghost use Rattle.promised.specs.Promised.{SheetAnswer, TextAnswer, AnalysisAnswer, TableAnswer};
+ghost use Rattle.promised.specs.Promised.{SheetAnswer, FirstSheetAnswer, TextAnswer};
+ghost use Rattle.promised.specs.Promised.{AnalysisAnswer, TableAnswer};
 ghost use Rattle.promised.specs.Promised.{NoRows, OneRowMore, OpeningAnswer, ReleaseAnswer};
 ghost use Rattle.promised.specs.Promised.{BrokenAnswer, TickAnswer, RequestAnswer, OutcomeBy};
 ghost use Rattle.promised.specs.Promised.{ReplayAnswer, AnswerForC, ToldAnswer};
@@ -33,6 +35,12 @@ pub fn read_sheet(sheet: &[u8]) -> Outcome
     ensures { λ r. ⌜ SheetAnswer (now (sheet .entry)) r ⌝ }
 {
     sheet::read(sheet)
+}
+
+pub fn read_first_sheet(bytes: &[u8]) -> FirstSheet
+    ensures { λ r. ⌜ FirstSheetAnswer (now (bytes .entry)) r ⌝ }
+{
+    sheet::read_first(bytes)
 }
 
 pub fn print_text(sheet: &[u8], out: &mut [u8]) -> usize

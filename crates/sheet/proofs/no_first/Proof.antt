@@ -1,7 +1,7 @@
 -- no_first answers that no sheet is read.
 use mathlib.Core.Path.{ap}
 use Rattle.sheet.specs.Reader.{noSheet, unread}
-use Rattle.sheet.specs.declared.Sheet.{Sheet}
+use Rattle.entries.specs.declared.Sheet.{Sheet}
 use Rattle.sheet.specs.declared.Verdict.the-variants.{Refused}
 use borrow.Author.Needs.{needs}
 use Rattle.sheet.proofs.no_first.Statement.{statement}
