@@ -57,7 +57,8 @@ module _ (limit : ℕ) (reading : Reading) (at : ℕ) (part : List ℕ)
       go : (own : Verdict) → ownVerdict at reading part ≡ own → ownVerdict at reading part ≡ Sound
       go Sound o = o
       go (Refused a b) o =
-          absurd (unread-not-sound (firstFrom (suc limit) reading at part) a b (first-refused limit reading at part a b o) s)
+          let refuses = first-refused limit reading at part a b o in
+          absurd (unread-not-sound (firstFrom (suc limit) reading at part) a b refuses s)
 
   record-within : Within (sizeOn part) (length part)
   record-within = sound-within at endLength reading part (recordOn part) (found part) record-sound
@@ -70,7 +71,8 @@ record Ends (at left end : ℕ) : Type 0 where
 first-ends : (limit : ℕ) (reading : Reading) (at : ℕ) (part : List ℕ) → firstFrom limit reading at part .verdict ≡ Sound
     → Ends at (length part) (firstFrom limit reading at part .end)
 unfolding ended
-first-ends zero reading at part s = absurd (unread-not-sound (firstFrom 0 reading at part) 11 at (first-none reading at part) s)
+first-ends zero reading at part s =
+    absurd (unread-not-sound (firstFrom 0 reading at part) 11 at (first-none reading at part) s)
 first-ends (suc limit) reading at part s =
     by-end
     (first-ends limit (afterRecord reading (recordOn part)) (at + sizeOn part) (drop (sizeOn part) part))
@@ -94,7 +96,8 @@ first-ends (suc limit) reading at part s =
         rw on (record { later = omega (arith, e .later); within = omega (arith, e .within, w .all) })
 
 -- the record at the front of a part that goes on in two ways
-module _ (front back rest : List ℕ) (some : 0 < sizeOn (front ++ back)) (fits : sizeOn (front ++ back) ≤ length front) where
+module _ (front back rest : List ℕ) (some : 0 < sizeOn (front ++ back))
+    (fits : sizeOn (front ++ back) ≤ length front) where
   size-same : sizeOn (front ++ rest) ≡ sizeOn (front ++ back)
   size-same = size-front front rest (omega arith) ∙ sym (size-front front back (omega arith))
 
@@ -165,8 +168,11 @@ front-first (suc limit) (suc other) reading at front back rest s ends h =
         let left = length-drop size front in
         let ih = later (rw split at goes) (rw split at stop ∙ omega (arith, left)) (omega (arith, left, some)) in
         first-on other reading at (front ++ rest) (sound-too fits) kind
-        ∙ rw
-        (record-same front back rest some fits, size-same front back rest some fits, drop-append-le size front rest fits)
+        ∙ rw (
+          record-same front back rest some fits,
+          size-same front back rest some fits,
+          drop-append-le size front rest fits,
+        )
         ih
         ∙ sym (rw split at on)
 
@@ -175,7 +181,8 @@ first-unread : (limit : ℕ) (reading : Reading) (at : ℕ) (part : List ℕ) (n
     → firstFrom limit reading at part .verdict ≡ Refused number place
     → firstFrom limit reading at part ≡ unread number place
 unfolding unread ended
-first-unread zero reading at part number place s = unread-by (firstFrom 0 reading at part) 11 at (first-none reading at part) number place s
+first-unread zero reading at part number place s =
+    unread-by (firstFrom 0 reading at part) 11 at (first-none reading at part) number place s
 first-unread (suc limit) reading at part number place s =
     by-own
     (first-unread limit (afterRecord reading (recordOn part)) (at + sizeOn part) (drop (sizeOn part) part) number place)

@@ -14,7 +14,8 @@ returns : tie.Need-returns
 unfolding unread noSheet
 returns c =
     let a = c .before .args in
-    ap (λ (sheet : Sheet). record { verdict = Refused (a .number) (a .place); sheet = sheet; end = 0 }) (c .of-board .ensures)
+    ap (λ (sheet : Sheet). record { verdict = Refused (a .number) (a .place); sheet = sheet; end = 0 })
+    (c .of-board .ensures)
 
 pub no-first-spec : {M : Type 1} → statement M
 no-first-spec = tie.close (tie.spec of-board-requires returns)
