@@ -5,29 +5,26 @@ use native.Mathlib.Omega.{arith}
 use mathlib.Core.Path.{_≡_, refl, sym, ap, _∙_}
 use mathlib.Core.Bool.{Bool, true, false, _&&_}
 use mathlib.Core.List.{List, [], _∷_}
-use mathlib.Core.Option.{Option, none, some}
+use mathlib.Core.Option.{some}
 use lib.Dec.{eqb}
 use lib.ListN.{length, getD, take, set, replicate}
 use lib.Seq.{getD-set-same, getD-set-other, getD-take}
 use borrow.Author.Tests.{eqb-true, eqb-false, eq-eqb, ne-eqb}
-use Rattle.laws.specs.Checks.{firstFailing}
 use Rattle.laws.proofs.Lists.{getD-repeated}
 use Rattle.quantities.specs.Limits.{rowCapacity}
 use Rattle.quantities.specs.Table.{rowsOf}
 use Rattle.quantities.specs.declared.Table.{Table}
 use Rattle.quantities.proofs.Rows.{length-rows}
 use Rattle.bench.specs.declared.Bench.{Bench}
-use Rattle.bench.specs.declared.Refusal.{Refusal}
 use Rattle.bench.specs.declared.Outcome.the-variants.{Taken, Refused}
 use Rattle.bench.specs.Record.{idle, work, rows, stateAt}
-use Rattle.bench.specs.Refusal.{releaseTests, tickTests}
 use Rattle.bench.specs.Serving.{units, less, worked}
-use Rattle.bench.specs.Step.{emptyBench, opened, fresh, started, served, moved, taken, release, tick}
+use Rattle.bench.specs.Step.{Step, emptyBench, opened, fresh, started, served, moved, taken, release, tick}
 use Rattle.bench.specs.History.{Call, releases, ticks, doCall, after, isTaken, brought, gave, accepted, servedIn}
 use Rattle.bench.proofs.Record.{sound-fits}
-use Rattle.bench.proofs.Permitted.{MayRelease, may-release}
+use Rattle.bench.proofs.Permitted.{MayRelease}
 use Rattle.bench.proofs.Units.{unit-le-work, worked-at}
-use Rattle.bench.proofs.Steps.{release-taken, release-refused, tick-taken, tick-refused, same-board}
+use Rattle.bench.proofs.Steps.{CallCase, refused, released, ticked, call-case, same-board}
 use Rattle.bench.proofs.Kept.{Kept, kept-call, kept-opened, opened-empty}
 
 -- A permitted release at a place, seen from that place and from another.
@@ -59,7 +56,7 @@ served-le-work b place low high =
 module _ (b : Bench) (k : Kept b) (place : ℕ) (low : 0 < place) (high : place ≤ length (rows b)) where
   release-balance : (other demand : ℕ) → work (stateAt b place) + brought place b (releases other demand) ≡ work (stateAt (release b other demand .bench) place)
   unfolding brought isTaken
-  release-balance other demand = go (firstFailing (releaseTests b other demand)) refl
+  release-balance other demand = at (call-case b (releases other demand))
     where
       here : (t : Bool) → eqb other place ≡ t → MayRelease b other demand
           → work (stateAt b place) + elim (t && true) [ true ↦ demand | false ↦ 0 ] ≡ work (stateAt (started b other demand) place)
@@ -73,25 +70,29 @@ module _ (b : Bench) (k : Kept b) (place : ℕ) (low : 0 < place) (high : place 
           let s = ap work (started-elsewhere b other demand k m place low (λ e. eqb-false other place q (sym e))) in
           omega arith
 
-      go : (found : Option Refusal) → firstFailing (releaseTests b other demand) ≡ found
-          → work (stateAt b place) + elim (eqb other place && isTaken (release b other demand .outcome)) [ true ↦ demand | false ↦ 0 ] ≡ work (stateAt (release b other demand .bench) place)
-      go none q = rw (release-taken b other demand q) (here (eqb other place) refl (may-release b other demand q))
-      go (some why) q = rw (release-refused b other demand why q) (refused (eqb other place))
-        where
-          refused : (t : Bool) → work (stateAt b place) + elim (t && false) [ true ↦ demand | false ↦ 0 ] ≡ work (stateAt b place)
-          refused true = add-zero (work (stateAt b place))
-          refused false = add-zero (work (stateAt b place))
+      nothing : (t : Bool)
+          → work (stateAt b place) + elim (t && false) [ true ↦ demand | false ↦ 0 ] ≡ work (stateAt b place)
+      nothing true = add-zero (work (stateAt b place))
+      nothing false = add-zero (work (stateAt b place))
+
+      at : {step : Step} → CallCase b (releases other demand) step
+          → work (stateAt b place) + elim (eqb other place && isTaken (step .outcome)) [ true ↦ demand | false ↦ 0 ]
+          ≡ work (stateAt (step .bench) place)
+      at (refused why q) = nothing (eqb other place)
+      at (released q may) = here (eqb other place) refl may
 
   tick-balance : work (stateAt b place) ≡ gave place b ticks + work (stateAt (tick b .bench) place)
   unfolding gave isTaken taken less
-  tick-balance = go (firstFailing (tickTests b)) refl
+  tick-balance = at (call-case b ticks)
     where
-      go : (found : Option Refusal) → firstFailing (tickTests b) ≡ found
-          → work (stateAt b place) ≡ elim (isTaken (tick b .outcome)) [ true ↦ getD (served b) (place - 1) 0 | false ↦ 0 ] + work (stateAt (tick b .bench) place)
-      go none q =
+      at : {step : Step} → CallCase b ticks step
+          → work (stateAt b place)
+          ≡ elim (isTaken (step .outcome)) [ true ↦ getD (served b) (place - 1) 0 | false ↦ 0 ]
+          + work (stateAt (step .bench) place)
+      at (refused why q) = sym (zero-add (work (stateAt b place)))
+      at (ticked q may) =
           let m = ap work (moved-at b place) in
-          rw (tick-taken b q) (omega (arith, served-le-work b place low high))
-      go (some why) q = rw (tick-refused b why q) (sym (zero-add (work (stateAt b place))))
+          omega (arith, served-le-work b place low high)
 
   pub call-balance : (call : Call) → work (stateAt b place) + brought place b call ≡ gave place b call + work (stateAt (doCall b call .bench) place)
   unfolding brought gave

@@ -5,7 +5,7 @@ use native.Mathlib.Nat.{zero-add}
 use mathlib.Core.Path.{_≡_, refl, sym, ap, _∙_}
 use mathlib.Core.Bool.{Bool, true, false, _&&_, _||_}
 use mathlib.Core.List.{List, [], _∷_}
-use mathlib.Core.Option.{Option, none, some}
+use mathlib.Core.Option.{some}
 use lib.Dec.{eqb, leb, ltb}
 use lib.ListN.{length, getD, take, set, replicate}
 use lib.Seq.{getD-take, take-take, take-set-lt, take-set-le}
@@ -27,12 +27,11 @@ use Rattle.bench.specs.declared.Outcome.the-variants.{Taken, Refused}
 use Rattle.bench.specs.Record.{lastInstant, idle, work, rows, rowAt, stateAt, broken}
 use Rattle.bench.specs.Refusal.{soonAt, fullAt, releaseTests, tickTests}
 use Rattle.bench.specs.Serving.{units, worked, finished}
-use Rattle.bench.specs.Step.{emptyBench, opened, fresh, started, served, moved, taken, release, tick}
-use Rattle.bench.specs.History.{Call, releases, ticks, doCall, after, concerns, callsTo, finishesTo}
+use Rattle.bench.specs.Step.{Step, emptyBench, opened, fresh, started, served, moved, taken, release}
+use Rattle.bench.specs.History.{Call, releases, ticks, callTests, doCall, after, concerns, callsTo, finishesTo}
 use Rattle.bench.specs.History.{Heard, heardOf, heard, SameRun}
 use Rattle.bench.proofs.Record.{whole-unbroken}
-use Rattle.bench.proofs.Permitted.{MayRelease, may-release}
-use Rattle.bench.proofs.Steps.{release-taken, release-refused, tick-taken, tick-refused}
+use Rattle.bench.proofs.Steps.{refused-step, taken-step, CallCase, refused, released, ticked, call-case}
 use Rattle.bench.proofs.Kept.{Kept, kept-call, kept-opened, opened-empty}
 use Rattle.bench.proofs.Balance.{same-rows}
 use Rattle.bench.proofs.Prefix.{take-units, take-worked, take-finished}
@@ -113,6 +112,14 @@ module _ {Good : Bench → Type 0} (steady : Steady Good) (k : ℕ) (b b' : Benc
   unfolding tickTests firstFailing
   same-tick-tests = rw (steady .whole b (a .good), steady .whole b' (a .good'), a .agree .now)
 
+  same-tests : (call : Call) → concerns k call ≡ true
+      → firstFailing (callTests b call) ≡ firstFailing (callTests b' call)
+  unfolding callTests concerns
+  same-tests (releases place demand) c =
+      let (low, high) = and-true (ltb 0 place) (leb place k) c in
+      same-release-tests place demand (ltb-true 0 place low) (leb-true place k high)
+  same-tests ticks c = same-tick-tests
+
   -- a poll that starts at a place down to k
   agree-started : (place demand : ℕ) → 0 < place → place ≤ k → Agree k (started b place demand) (started b' place demand)
   unfolding started
@@ -161,68 +168,53 @@ module _ {Good : Bench → Type 0} (steady : Steady Good) (k : ℕ) (b b' : Benc
       rw (take-finished k (suc (b .now .0)) 0 k (zero-add k) (served b) (b .states), take-finished k (suc (b' .now .0)) 0 k (zero-add k) (served b') (b' .states), same-served, a .agree .states, a .agree .now)
 
   -- A call that concerns the rows down to k leaves them alike and says the same of them.
-  release-alike : (place demand : ℕ) → 0 < place → place ≤ k
-      → Agree k (release b place demand .bench) (release b' place demand .bench) × (heardOf k (release b place demand) ≡ heardOf k (release b' place demand))
-  release-alike place demand low high = go (firstFailing (releaseTests b place demand)) refl
+  concerned-agree : (call : Call) → concerns k call ≡ true
+      → Agree k (doCall b call .bench) (doCall b' call .bench)
+      × (heardOf k (doCall b call) ≡ heardOf k (doCall b' call))
+  unfolding concerns taken
+  concerned-agree call c = at (call-case b call) c (same-tests steady k b b' a call c)
     where
-      go : (found : Option Refusal) → firstFailing (releaseTests b place demand) ≡ found
-          → Agree k (release b place demand .bench) (release b' place demand .bench) × (heardOf k (release b place demand) ≡ heardOf k (release b' place demand))
-      go none q =
-          let q' = sym (same-release-tests steady k b b' a place demand low high) ∙ q in
-          rw (release-taken b place demand q, release-taken b' place demand q') (agree-started steady k b b' a place demand low high, refl)
-      go (some why) q =
-          let q' = sym (same-release-tests steady k b b' a place demand low high) ∙ q in
-          rw (release-refused b place demand why q, release-refused b' place demand why q') (a .agree, refl)
-
-  tick-alike : Agree k (tick b .bench) (tick b' .bench) × (heardOf k (tick b) ≡ heardOf k (tick b'))
-  unfolding taken
-  tick-alike = go (firstFailing (tickTests b)) refl
-    where
-      heard-taken : heardOf k (taken b) ≡ heardOf k (taken b')
-      heard-taken = ap (λ polls. record { outcome = Taken; finishes = polls }) same-finished
-
-      go : (found : Option Refusal) → firstFailing (tickTests b) ≡ found → Agree k (tick b .bench) (tick b' .bench) × (heardOf k (tick b) ≡ heardOf k (tick b'))
-      go none q =
-          let q' = sym (same-tick-tests steady k b b' a) ∙ q in
-          rw (tick-taken b q, tick-taken b' q') (agree-moved, heard-taken)
-      go (some why) q =
-          let q' = sym (same-tick-tests steady k b b' a) ∙ q in
-          rw (tick-refused b why q, tick-refused b' why q') (a .agree, refl)
+      at : {one : Call} {step : Step} → CallCase b one step → concerns k one ≡ true
+          → firstFailing (callTests b one) ≡ firstFailing (callTests b' one)
+          → Agree k (step .bench) (doCall b' one .bench) × (heardOf k step ≡ heardOf k (doCall b' one))
+      at {one} (refused why q) c same = rw (refused-step b' one why (sym same ∙ q)) (a .agree, refl)
+      at (released {place} {demand} q may) c same =
+          let (low, high) = and-true (ltb 0 place) (leb place k) c in
+          rw (taken-step b' (releases place demand) (sym same ∙ q))
+          (agree-started steady k b b' a place demand (ltb-true 0 place low) (leb-true place k high), refl)
+      at (ticked q may) c same =
+          rw (taken-step b' ticks (sym same ∙ q))
+          (agree-moved, ap (λ polls. record { outcome = Taken; finishes = polls }) same-finished)
 
   -- A call that does not concern them leaves them as they were.
-  other-alike : (place demand : ℕ) → (ltb 0 place && leb place k) ≡ false → Agree k (release b place demand .bench) b'
-  other-alike place demand e = go (firstFailing (releaseTests b place demand)) refl
+  unconcerned-agree : (call : Call) → concerns k call ≡ false → Agree k (doCall b call .bench) b'
+  unfolding concerns
+  unconcerned-agree call c = at (call-case b call) c
     where
-      go : (found : Option Refusal) → firstFailing (releaseTests b place demand) ≡ found → Agree k (release b place demand .bench) b'
-      go none q =
-          let m = may-release b place demand q in
-          let past : leb place k ≡ false = rw (lt-ltb 0 place (m .low)) at e in
-          rw (release-taken b place demand q) (agree-below steady k b b' a place demand (leb-false place k past))
-      go (some why) q = rw (release-refused b place demand why q) (a .agree)
+      at : {one : Call} {step : Step} → CallCase b one step → concerns k one ≡ false → Agree k (step .bench) b'
+      at (refused why q) c = a .agree
+      at (released {place} {demand} q may) c =
+          let past : leb place k ≡ false = rw (lt-ltb 0 place (may .low)) at c in
+          agree-below steady k b b' a place demand (leb-false place k past)
+      at (ticked q may) c = let z : _≡_ {A = ℕ} 0 1 = cc in absurd (omega arith)
 
 -- One call, and whole histories, of which the second has only what concerns the rows down to k.
 tall-call : (k : ℕ) (b : Bench) (call : Call) → k ≤ length (rows b) → k ≤ length (rows (doCall b call .bench))
 tall-call k b call h = rw (same-rows b call) h
 
 unconcerned-alike : {Good : Bench → Type 0} (steady : Steady Good) (k : ℕ) (b b' : Bench) (call : Call) → concerns k call ≡ false → Alike Good k b b' → Alike Good k (doCall b call .bench) b'
-unfolding concerns
 unconcerned-alike {Good} steady k b b' call c a =
     record {
-      agree = left call c;
+      agree = unconcerned-agree steady k b b' a call c;
       good = steady .call b call (a .good);
       good' = a .good';
       tall = tall-call k b call (a .tall);
       tall' = a .tall';
     }
-  where
-    left : (one : Call) → concerns k one ≡ false → Agree k (doCall b one .bench) b'
-    left (releases place demand) c = other-alike steady k b b' a place demand c
-    left ticks c = absurd (not-one cc)
 
 concerned-alike : {Good : Bench → Type 0} (steady : Steady Good) (k : ℕ) (b b' : Bench) (call : Call) → concerns k call ≡ true → Alike Good k b b'
     → Alike Good k (doCall b call .bench) (doCall b' call .bench) × (heardOf k (doCall b call) ≡ heardOf k (doCall b' call))
-unfolding concerns
-concerned-alike {Good} steady k b b' call c a = let (same, told) = both call c in (
+concerned-alike {Good} steady k b b' call c a = let (same, told) = concerned-agree steady k b b' a call c in (
   record {
     agree = same;
     good = steady .call b call (a .good);
@@ -232,12 +224,6 @@ concerned-alike {Good} steady k b b' call c a = let (same, told) = both call c i
   },
   told,
 )
-  where
-    both : (one : Call) → concerns k one ≡ true → Agree k (doCall b one .bench) (doCall b' one .bench) × (heardOf k (doCall b one) ≡ heardOf k (doCall b' one))
-    both (releases place demand) c =
-        let (low, high) = and-true (ltb 0 place) (leb place k) c in
-        release-alike steady k b b' a place demand (ltb-true 0 place low) (leb-true place k high)
-    both ticks c = tick-alike steady k b b' a
 
 pub history-alike : {Good : Bench → Type 0} (steady : Steady Good) (k : ℕ) (calls : List Call) (b b' : Bench) → Alike Good k b b'
     → Alike Good k (after b calls) (after b' (callsTo k calls)) × (heard k b calls ≡ heard k b' (callsTo k calls))

@@ -34,7 +34,7 @@ use Rattle.bench.proofs.Record.{Whole, whole-of, whole-unbroken}
 use Rattle.bench.proofs.Permitted.{MayRelease, MayTick, tick-24}
 use Rattle.bench.proofs.Rows.{less-none}
 use Rattle.bench.proofs.Units.{length-worked}
-use Rattle.bench.proofs.Steps.{refusedStep, tick-refused, CallCase, refused, released, ticked, call-case}
+use Rattle.bench.proofs.Steps.{refusedStep, refused-step, CallCase, refused, released, ticked, call-case}
 
 -- A well kept bench: its record is whole, and it has a state for each row that a table can hold.
 pub record Kept (b : Bench) : Type 0 where
@@ -235,4 +235,5 @@ opened-no-29 cores table b o calls call = kept-no-29 (after b calls) call (kept-
 
 -- At the last instant a tick is refused and nothing moves.
 pub tick-at-end : (b : Bench) → Kept b → b .now .0 ≡ lastInstant → tick b ≡ refusedStep ClockEnd b
-tick-at-end b k e = tick-refused b ClockEnd (tick-24 b (whole-unbroken b (k .whole)) e)
+unfolding callTests
+tick-at-end b k e = refused-step b ticks ClockEnd (tick-24 b (whole-unbroken b (k .whole)) e)

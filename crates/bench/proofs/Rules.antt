@@ -38,8 +38,7 @@ use Rattle.bench.specs.Rules.{BooksBalance, NeverBroken, ClockEnds}
 use Rattle.bench.proofs.Record.{whole-of, sound-fits}
 use Rattle.bench.proofs.Permitted.{may-release, may-tick, tick-24}
 use Rattle.bench.proofs.Gaps.{gap-over, first-never-soon}
-use Rattle.bench.proofs.Steps.{release-taken, tick-taken, tick-refused}
-use Rattle.bench.proofs.Steps.{refused-step, refused-same, same-board}
+use Rattle.bench.proofs.Steps.{refused-step, taken-step, refused-same, same-board}
 use Rattle.bench.proofs.Kept.{Kept, opened-empty, opened-no-29}
 use Rattle.bench.proofs.Balance.{started-here, started-elsewhere, empty-balance}
 use Rattle.bench.proofs.TickRule.{taken-rule}
@@ -65,10 +64,9 @@ call-turned-away b call one first =
     rw (refused-step b call why is-first) (record { on-paper = on-paper; none-end = refl; same-bench = refl })
 
 pub call-taken : CallTaken
-unfolding callTests taken
-call-taken b (releases place demand) p =
-    ap (λ (s : Step). s .outcome) (release-taken b place demand (permitted b (releases place demand) p))
-call-taken b ticks p = ap (λ (s : Step). s .outcome) (tick-taken b (permitted b ticks p))
+unfolding taken
+call-taken b (releases place demand) p = rw (taken-step b (releases place demand) (permitted b _ p))
+call-taken b ticks p = rw (taken-step b ticks (permitted b ticks p))
 
 pub refused-call-has-fault : RefusedCallHasFault
 unfolding outcomePaper
@@ -131,7 +129,7 @@ releases-by-rule b place demand long p =
     let e = permitted b (releases place demand) p in
     let may = may-release b place demand e in
     let k : Kept b = record { whole = whole-of b (may .whole); long = long } in
-    rw (release-taken b place demand e)
+    rw (taken-step b (releases place demand) e)
     (record {
       outcome = refl;
       poll-starts = started-here b place demand k may;
@@ -148,13 +146,13 @@ ticks-by-rule b long p =
     let e = permitted b ticks p in
     let k : Kept b = record { whole = whole-of b (may-tick b e .whole); long = long } in
     let few = sound-fits (b .cores) (b .table) (k .whole .sound) in
-    rw (tick-taken b e) (taken-rule b k (omega (arith, length-rows (b .table), few, long)))
+    rw (taken-step b ticks e) (taken-rule b k (omega (arith, length-rows (b .table), few, long)))
 
 -- A row that is ready is released where the gap is kept.
 ready-taken : (b : Bench) (place demand : ℕ) → Ready b place demand
     → tooSoon (b .now .0) (gap (rowAt b place)) (stateAt b place .last) ≡ false
     → release b place demand .outcome ≡ Taken
-unfolding releaseTests firstFailing
+unfolding callTests releaseTests firstFailing
 ready-taken b place demand r kept =
     let no-zero = ne-eqb place 0 (λ e. omega (arith, r .first)) in
     let inside = le-ltb (length (rows b)) place (r .last) in
@@ -162,7 +160,7 @@ ready-taken b place demand r kept =
     let fits = le-ltb (cost (rowAt b place)) demand (r .fits) in
     let over = le-ltb 0 (work (stateAt b place)) (omega (arith, r .over)) in
     ap (λ (s : Step). s .outcome)
-    (release-taken b place demand (rw (r .whole, no-zero, inside, some-demand, fits, kept, over)))
+    (taken-step b (releases place demand) (rw (r .whole, no-zero, inside, some-demand, fits, kept, over)))
 
 pub exact-gap-permitted : ExactGapPermitted
 exact-gap-permitted b place demand at r last now =
@@ -180,6 +178,6 @@ pub never-broken : NeverBroken
 never-broken = opened-no-29
 
 pub clock-ends : ClockEnds
-unfolding outcomePaper refusalPaper
+unfolding callTests outcomePaper refusalPaper
 clock-ends b whole e =
-    rw (tick-refused b _ (tick-24 b whole e)) (record { on-paper = refl; none-end = refl; same-bench = refl })
+    rw (refused-step b ticks _ (tick-24 b whole e)) (record { on-paper = refl; none-end = refl; same-bench = refl })

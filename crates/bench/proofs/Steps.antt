@@ -23,6 +23,11 @@ refusedStep why b = record { outcome = Refused why; finishes = []; bench = b }
 abbrev pub releasedStep : Bench → (place demand : ℕ) → Step
 releasedStep b place demand = record { outcome = Taken; finishes = []; bench = started b place demand }
 
+-- a call that is taken
+abbrev pub takenStep : Bench → Call → Step
+takenStep b (releases place demand) = releasedStep b place demand
+takenStep b ticks = taken b
+
 -- What a call comes to: it is refused and nothing changes, or a poll starts, or the rows are served.
 pub data CallCase (b : Bench) : Call → Step → Type 0 where
   refused : {call : Call} (why : Refusal) → firstFailing (callTests b call) ≡ some why
@@ -52,23 +57,10 @@ unfolding callTests release tick unless
 refused-step b (releases place demand) why e = rw (e, unless)
 refused-step b ticks why e = rw (e, unless)
 
-pub release-refused : (b : Bench) (place demand : ℕ) (why : Refusal)
-    → firstFailing (releaseTests b place demand) ≡ some why → release b place demand ≡ refusedStep why b
-unfolding callTests
-release-refused b place demand why e = refused-step b (releases place demand) why e
-
-pub tick-refused : (b : Bench) (why : Refusal) → firstFailing (tickTests b) ≡ some why → tick b ≡ refusedStep why b
-unfolding callTests
-tick-refused b why e = refused-step b ticks why e
-
-pub release-taken : (b : Bench) (place demand : ℕ) → firstFailing (releaseTests b place demand) ≡ none
-    → release b place demand ≡ releasedStep b place demand
-unfolding release unless
-release-taken b place demand e = rw (e, unless)
-
-pub tick-taken : (b : Bench) → firstFailing (tickTests b) ≡ none → tick b ≡ taken b
-unfolding tick unless
-tick-taken b e = rw (e, unless)
+pub taken-step : (b : Bench) (call : Call) → firstFailing (callTests b call) ≡ none → doCall b call ≡ takenStep b call
+unfolding callTests release tick unless
+taken-step b (releases place demand) e = rw (e, unless)
+taken-step b ticks e = rw (e, unless)
 
 -- A refused call changes nothing on the bench.
 pub refused-same : (b : Bench) (call : Call) (why : Refusal) → doCall b call .outcome ≡ Refused why

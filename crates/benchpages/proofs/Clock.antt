@@ -5,17 +5,13 @@ use native.Mathlib.Omega.{arith}
 use mathlib.Core.Path.{_≡_, refl}
 use mathlib.Core.Bool.{false}
 use mathlib.Core.List.{List, [], _∷_}
-use mathlib.Core.Option.{Option, none, some}
-use Rattle.laws.specs.Checks.{firstFailing}
 use Rattle.bench.specs.declared.Bench.{Bench}
-use Rattle.bench.specs.declared.Refusal.{Refusal}
 use Rattle.bench.specs.Record.{lastInstant, broken}
-use Rattle.bench.specs.Refusal.{releaseTests}
-use Rattle.bench.specs.Step.{started, release, moved, taken, tick}
-use Rattle.bench.specs.History.{Call, releases, ticks, after}
+use Rattle.bench.specs.Step.{Step, started, release, moved, taken, tick}
+use Rattle.bench.specs.History.{Call, releases, ticks, callTests, after}
 use Rattle.bench.proofs.Record.{whole-unbroken}
 use Rattle.bench.proofs.Permitted.{tick-permitted}
-use Rattle.bench.proofs.Steps.{release-taken, release-refused, tick-taken}
+use Rattle.bench.proofs.Steps.{taken-step, CallCase, refused, released, call-case}
 use Rattle.bench.proofs.Kept.{Kept, kept-opened, kept-call, tick-at-end}
 use Rattle.bench.proofs.Rules.{opened-holds}
 use Rattle.benchpages.specs.Polls.{ticksAmong, ClockCounts}
@@ -23,15 +19,14 @@ use Rattle.benchpages.specs.Polls.{ticksAmong, ClockCounts}
 -- On a bench that is well kept a release leaves the clock, and a tick moves it on unless it is at its end.
 pub release-clock : (b : Bench) (place demand : ℕ) → release b place demand .bench .now ≡ b .now
 unfolding started
-release-clock b place demand = go (firstFailing (releaseTests b place demand)) refl
+release-clock b place demand = at (call-case b (releases place demand))
   where
-    go : (found : Option Refusal) → firstFailing (releaseTests b place demand) ≡ found
-        → release b place demand .bench .now ≡ b .now
-    go none e = rw (release-taken b place demand e) refl
-    go (some why) e = rw (release-refused b place demand why e) refl
+    at : {step : Step} → CallCase b (releases place demand) step → step .bench .now ≡ b .now
+    at (refused why q) = refl
+    at (released q may) = refl
 
 tick-clock : (b : Bench) → Kept b → tick b .bench .now .0 ≡ min (suc (b .now .0)) lastInstant
-unfolding taken moved
+unfolding callTests taken moved
 tick-clock b kept = go (decLe lastInstant (b .now .0))
   where
     whole : broken b ≡ false
@@ -41,7 +36,7 @@ tick-clock b kept = go (decLe lastInstant (b .now .0))
     go (yes late) =
         let end : b .now .0 ≡ lastInstant = omega (arith, kept .whole .in-time) in
         rw (tick-at-end b kept end) (omega arith)
-    go (no early) = rw (tick-taken b (tick-permitted b whole (λ e. omega arith))) (omega arith)
+    go (no early) = rw (taken-step b ticks (tick-permitted b whole (λ e. omega arith))) (omega arith)
 
 pub clock-after : (calls : List Call) (b : Bench) → Kept b
     → after b calls .now .0 ≡ min (b .now .0 + ticksAmong calls) lastInstant

@@ -3,7 +3,7 @@ use Prim.Native.Nat.{ℕ, _-_, _≤_}
 use native.Mathlib.Omega.{arith}
 use mathlib.Core.Path.{_≡_, refl, ap, _∙_}
 use mathlib.Core.List.{List, [], _∷_}
-use mathlib.Core.Option.{Option, none, some}
+use mathlib.Core.Option.{some}
 use lib.Dec.{eqb}
 use lib.ListN.{length, replicate, length-append, length-replicate}
 use lib.Seq.{take-append-seam, drop-append-seam}
@@ -14,16 +14,15 @@ use Rattle.quantities.specs.Paper.{paper}
 use Rattle.quantities.specs.Table.{rowsOf, emptyTable}
 use Rattle.quantities.specs.Checks.{check, listFault, listChecks, checkedOf}
 use Rattle.bench.specs.declared.Bench.{Bench}
-use Rattle.bench.specs.declared.Refusal.{Refusal}
 use Rattle.bench.specs.declared.Finish.{Finish}
 use Rattle.bench.specs.Record.{broken}
-use Rattle.bench.specs.Refusal.{refusalPaper, outcomePaper, releaseTests, tickTests, outcomeOf}
+use Rattle.bench.specs.Refusal.{refusalPaper, outcomePaper, outcomeOf}
 use Rattle.bench.specs.Ended.{noFinish, finishesOf}
-use Rattle.bench.specs.Step.{emptyBench, noBench, openingOf, release, taken, tick, releasedOf, tickedOf}
-use Rattle.bench.specs.History.{Call, ticks, doCall, after}
+use Rattle.bench.specs.Step.{emptyBench, noBench, Step, openingOf, taken, tick, releasedOf, tickedOf}
+use Rattle.bench.specs.History.{Call, releases, ticks, callTests, doCall, after}
 use Rattle.bench.proofs.Record.{whole-unbroken}
 use Rattle.bench.proofs.Kept.{opened-empty, kept-opened, kept-after}
-use Rattle.bench.proofs.Steps.{release-taken, release-refused, tick-taken, tick-refused}
+use Rattle.bench.proofs.Steps.{CallCase, refused, released, ticked, call-case}
 use Rattle.bench.proofs.Open.{no-bench-broken}
 use Rattle.bench.proofs.Rules.{faulty-table-not-opened, sound-table-opened, opened-holds as kept-opening}
 use Rattle.replay.proofs.Turns.{polls-few}
@@ -115,27 +114,23 @@ unfolding tickedOf
 ended-listed = (polls-listed, λ b. polls-listed (tick b .finishes) (polls-few b ticks))
 
 -- what a judge says of a call is the call's outcome
-judged-release : (b : Bench) (place demand : ℕ) (found : Option Refusal)
-    → firstFailing (releaseTests b place demand) ≡ found
-    → outcomeOf (firstFailing (releaseTests b place demand)) ≡ release b place demand .outcome
-unfolding outcomeOf
-judged-release b place demand none q = rw (q, release-taken b place demand q)
-judged-release b place demand (some why) q = rw (q, release-refused b place demand why q)
-
-judged-tick : (b : Bench) (found : Option Refusal) → firstFailing (tickTests b) ≡ found
-    → outcomeOf (firstFailing (tickTests b)) ≡ tick b .outcome
+judged-call : (b : Bench) (call : Call) → outcomeOf (firstFailing (callTests b call)) ≡ doCall b call .outcome
 unfolding outcomeOf taken
-judged-tick b none q = rw (q, tick-taken b q)
-judged-tick b (some why) q = rw (q, tick-refused b why q)
+judged-call b call = at (call-case b call)
+  where
+    at : {one : Call} {step : Step} → CallCase b one step
+        → outcomeOf (firstFailing (callTests b one)) ≡ step .outcome
+    at (refused why q) = rw q
+    at (released q may) = rw q
+    at (ticked q may) = rw q
 
 pub calls-answered : CallsAnswered
-unfolding releasedOf tickedOf
+unfolding callTests releasedOf tickedOf
 calls-answered =
     record {
       last-instant = refl;
-      judge-release = λ b place demand.
-          judged-release b place demand (firstFailing (releaseTests b place demand)) refl;
-      judge-tick = λ b. judged-tick b (firstFailing (tickTests b)) refl;
+      judge-release = λ b place demand. judged-call b (releases place demand);
+      judge-tick = λ b. judged-call b ticks;
       to-release = λ step. refl;
       to-tick = λ step. refl;
     }

@@ -4,9 +4,7 @@ use native.Mathlib.Decide.{decLe}
 use native.Mathlib.Omega.{arith}
 use mathlib.Core.Path.{_≡_, refl, sym, ap, _∙_}
 use mathlib.Core.Logic.{_⊎_, inl, inr}
-use mathlib.Core.Option.{Option, none, some}
 use lib.ListN.{getD}
-use Rattle.laws.specs.Checks.{firstFailing}
 use Rattle.laws.proofs.Lists.{each-map}
 use Rattle.laws.proofs.Tests.{not-one}
 use Rattle.quantities.specs.declared.Instant.{Instant}
@@ -15,17 +13,15 @@ use Rattle.bench.specs.declared.Last.{Last}
 use Rattle.bench.specs.declared.Last.the-variants.{Never, At}
 use Rattle.bench.specs.declared.RowState.{RowState}
 use Rattle.bench.specs.declared.Bench.{Bench}
-use Rattle.bench.specs.declared.Refusal.{Refusal}
 use Rattle.bench.specs.declared.Finish.{Finish}
 use Rattle.bench.specs.declared.Outcome.the-variants.{Taken}
 use Rattle.bench.specs.Record.{stateAt, work}
-use Rattle.bench.specs.Refusal.{releaseTests, tickTests}
 use Rattle.bench.specs.Serving.{less}
 use Rattle.bench.specs.Step.{Step, started, release, served, moved, taken, tick}
+use Rattle.bench.specs.History.{releases, ticks}
 use Rattle.bench.specs.TickRule.{Gets, PollEnds, TickRule}
 use Rattle.bench.proofs.Record.{sound-fits}
-use Rattle.bench.proofs.Permitted.{may-release}
-use Rattle.bench.proofs.Steps.{release-taken, release-refused, tick-taken, tick-refused}
+use Rattle.bench.proofs.Steps.{CallCase, refused, released as poll-started, ticked, call-case}
 use Rattle.bench.proofs.Balance.{started-here, started-elsewhere}
 use Rattle.bench.proofs.TickRule.{gets-one, has-got, taken-rule}
 use Rattle.bench.proofs.Kept.{Kept}
@@ -61,26 +57,23 @@ module _ (place released : ℕ) (first : 1 ≤ place) (b : Bench) (kept : Kept b
   -- A release changes nothing of it: one of the same row is refused.
   pub release-waits : (other demand : ℕ) → WaitsOn place released (release b other demand)
   unfolding started
-  release-waits other demand = go (firstFailing (releaseTests b other demand)) refl
+  release-waits other demand = at (call-case b (releases other demand))
     where
-      go : (found : Option Refusal) → firstFailing (releaseTests b other demand) ≡ found
-          → WaitsOn place released (release b other demand)
-      go none e =
-          let may = may-release b other demand e in
+      at : {step : Step} → CallCase b (releases other demand) step → WaitsOn place released step
+      at (refused why q) = record { waits = waits; none-listed = tt }
+      at (poll-started q may) =
           let busy = waits .busy in
           let elsewhere : place ≡ other → ⊥ =
           λ same. omega (arith, may .done, busy, ap (λ (p : ℕ). work (stateAt b p)) same) in
           let same = started-elsewhere b other demand kept may place first elsewhere in
-          rw (release-taken b other demand e)
-          (record {
+          record {
             waits = record {
               last-release = ap (λ (s : RowState). s .last) same ∙ waits .last-release;
               busy = rw same busy;
               past = waits .past;
             };
             none-listed = tt;
-          })
-      go (some why) e = rw (release-refused b other demand why e) (record { waits = waits; none-listed = tt })
+          }
 
   -- the tick rule, of a tick that is not refused
   rule : TickRule b (taken b)
@@ -155,42 +148,36 @@ module _ (place released : ℕ) (first : 1 ≤ place) (b : Bench) (kept : Kept b
 
   -- and so does a tick that is refused.
   pub tick-goes : EndsNow place released (tick b) ⊎ WaitsOn place released (tick b)
-  tick-goes = go (firstFailing (tickTests b)) refl
+  tick-goes = at (call-case b ticks)
     where
-      go : (found : Option Refusal) → firstFailing (tickTests b) ≡ found
-          → EndsNow place released (tick b) ⊎ WaitsOn place released (tick b)
-      go none e = rw (tick-taken b e) taken-goes
-      go (some why) e = rw (tick-refused b why e) (inr (record { waits = waits; none-listed = tt }))
+      at : {step : Step} → CallCase b ticks step → EndsNow place released step ⊎ WaitsOn place released step
+      at (refused why q) = inr (record { waits = waits; none-listed = tt })
+      at (ticked q may) = taken-goes
 
 -- A tick that lists a poll is taken: it moves the clock.
 pub lists-moves : (b : Bench) (place released : ℕ) → EndsNow place released (tick b)
     → tick b .bench .now .0 ≡ suc (b .now .0)
 unfolding taken moved
-lists-moves b place released now = go (firstFailing (tickTests b)) refl
+lists-moves b place released = at (call-case b ticks)
   where
-    go : (found : Option Refusal) → firstFailing (tickTests b) ≡ found
-        → tick b .bench .now .0 ≡ suc (b .now .0)
-    go none e = rw (tick-taken b e) refl
-    go (some why) e =
-        absurd
-        (rw (ap (λ (s : Step). s .finishes) (tick-refused b why e)) at (now .lists .listed))
+    at : {step : Step} → CallCase b ticks step → EndsNow place released step
+        → step .bench .now .0 ≡ suc (b .now .0)
+    at (refused why q) now = absurd (now .lists .listed)
+    at (ticked q may) now = refl
 
 -- A release that is taken starts the poll.
 pub starts : (b : Bench) (place demand : ℕ) → Kept b → release b place demand .outcome ≡ Taken
     → Waits place (b .now .0) (release b place demand .bench)
 unfolding started
-starts b place demand kept is = go (firstFailing (releaseTests b place demand)) refl
+starts b place demand kept = at (call-case b (releases place demand))
   where
-    go : (found : Option Refusal) → firstFailing (releaseTests b place demand) ≡ found
-        → Waits place (b .now .0) (release b place demand .bench)
-    go none e =
-        let may = may-release b place demand e in
+    at : {step : Step} → CallCase b (releases place demand) step → step .outcome ≡ Taken
+        → Waits place (b .now .0) (step .bench)
+    at (refused why q) is = let z : _≡_ {A = ℕ} 0 1 = cc in absurd (omega arith)
+    at (poll-started q may) is =
         let here = started-here b place demand kept may in
-        rw (release-taken b place demand e)
-        (record {
+        record {
           last-release = ap (λ (s : RowState). s .last) here;
           busy = rw here (may .some-demand);
           past = omega arith;
-        })
-    go (some why) e =
-        absurd (not-one (cc (release-refused b place demand why e)))
+        }

@@ -6,24 +6,20 @@ use mathlib.Core.List.{List}
 use mathlib.Core.Option.{Option, none, some}
 use lib.ListN.{length, take, drop, length-drop, length-take, replicate}
 use lib.Seq.{sets, length-sets, take-append-seam}
-use Rattle.laws.specs.Checks.{firstFailing}
 use Rattle.laws.proofs.Tests.{not-one}
 use Rattle.quantities.specs.Limits.{rowCapacity}
 use Rattle.quantities.proofs.Rows.{length-rows}
 use Rattle.bench.specs.declared.Bench.{Bench}
 use Rattle.bench.specs.declared.Finish.{Finish}
-use Rattle.bench.specs.declared.Refusal.{Refusal}
 use Rattle.bench.specs.declared.Request.{Request}
 use Rattle.bench.specs.declared.Ticked.{Ticked}
 use Rattle.bench.specs.Record.{rows}
-use Rattle.bench.specs.Refusal.{tickTests}
 use Rattle.bench.specs.Ended.{noFinish, finishesOf}
-use Rattle.bench.specs.Step.{Step, served, taken, tick, tickedOf}
-use Rattle.bench.specs.History.{Call, releases, ticks, doCall, callOf}
+use Rattle.bench.specs.Step.{Step, served, taken, tickedOf}
+use Rattle.bench.specs.History.{Call, doCall, callOf}
 use Rattle.bench.proofs.Record.{whole-of, sound-fits}
-use Rattle.bench.proofs.Permitted.{may-tick}
 use Rattle.bench.proofs.Serving.{finished-few, length-units}
-use Rattle.bench.proofs.Steps.{tick-taken, tick-refused, release-no-polls}
+use Rattle.bench.proofs.Steps.{CallCase, refused, released, ticked, call-case}
 use Rattle.replay.specs.declared.Read.the-variants.{Nothing as NoCall, Call as OneCall}
 use Rattle.replay.specs.declared.Replayed.the-variants.{Done, NotACall, NoRoom}
 use Rattle.replay.specs.Format.{requestIn, requestRead, answerOf, answerBytes}
@@ -35,16 +31,16 @@ use Rattle.replay.proofs.Calls.{replayRest, no-call, no-room, one-more,
 -- no call ends more polls than a table can have rows
 pub polls-few : (b : Bench) (call : Call) → length (doCall b call .finishes) ≤ rowCapacity
 unfolding taken served
-polls-few b (releases place demand) = rw (release-no-polls b place demand) (omega arith)
-polls-few b ticks = go (firstFailing (tickTests b)) refl
+polls-few b call = at (call-case b call)
   where
-    go : (found : Option Refusal) → firstFailing (tickTests b) ≡ found → length (tick b .finishes) ≤ rowCapacity
-    go none q =
-        let fits = sound-fits (b .cores) (b .table) (whole-of b (may-tick b q .whole) .sound) in
+    at : {one : Call} {step : Step} → CallCase b one step → length (step .finishes) ≤ rowCapacity
+    at (refused why q) = omega arith
+    at (released q may) = omega arith
+    at (ticked q may) =
+        let fits = sound-fits (b .cores) (b .table) (whole-of b (may .whole) .sound) in
         let few = finished-few (suc (b .now .0)) 1 (served b) (b .states) in
         let n = length-units (b .cores) (take (length (rows b)) (b .states)) in
-        rw (tick-taken b q) (omega (arith, length-take (length (rows b)) (b .states), length-rows (b .table)))
-    go (some why) q = rw (tick-refused b why q) (omega arith)
+        omega (arith, length-take (length (rows b)) (b .states), length-rows (b .table))
 
 -- What the code's answer r says of the step: its polls, its bytes and their number, the bench.
 pub record Says (step : Step) (r : Ticked) : Type 0 where

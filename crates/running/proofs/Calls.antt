@@ -1,20 +1,16 @@
 -- One call on a bench, and many: each keeps the invariant, refused or not.
 use Prim.Native.Nat.{ℕ, _-_}
-use mathlib.Core.Path.{_≡_, refl}
+use mathlib.Core.Path.{_≡_}
 use mathlib.Core.List.{List, [], _∷_}
-use mathlib.Core.Option.{Option, none, some}
 use lib.ListN.{getD}
-use Rattle.laws.specs.Checks.{firstFailing}
 use Rattle.laws.specs.Each.{Each}
 use Rattle.quantities.specs.declared.Row.{Row}
 use Rattle.quantities.specs.Row.{noRow}
 use Rattle.bench.specs.declared.Bench.{Bench}
-use Rattle.bench.specs.declared.Refusal.{Refusal}
-use Rattle.bench.specs.declared.Outcome.the-variants.{Taken}
 use Rattle.bench.specs.Record.{rows, stateAt}
-use Rattle.bench.specs.Refusal.{releaseTests, tickTests}
-use Rattle.bench.specs.Step.{Step, unless, started, release, served, moved, taken, tick}
-use Rattle.bench.specs.History.{Call, releases, ticks, doCall, after, steps}
+use Rattle.bench.specs.Step.{Step, started, served, moved, taken}
+use Rattle.bench.specs.History.{Call, doCall, after, steps}
+use Rattle.bench.proofs.Steps.{CallCase, refused, released, ticked, call-case}
 use Rattle.running.proofs.Invariant.{no-facts, Inv}
 use Rattle.running.proofs.Tick.{inv-tick}
 use Rattle.running.proofs.Release.{Allowed, inv-release}
@@ -27,42 +23,26 @@ pub record InRun (M : ℕ) (list : List Row) (bounds : List ℕ) (b : Bench) : T
   pub inv : Inv M (b .now .0) [] [] list bounds (b .states)
 
 module _ {M : ℕ} {list : List Row} {bounds : List ℕ} where
-  -- a release, taken or refused
-  run-release : (b : Bench) (place demand : ℕ) → InRun M list bounds b
-      → InRun M list bounds (release b place demand .bench)
-  unfolding release unless started
-  run-release b place demand run = go (firstFailing (releaseTests b place demand)) refl
+  run-call : (b : Bench) (call : Call) → InRun M list bounds b → InRun M list bounds (doCall b call .bench)
+  unfolding started taken moved served
+  run-call b call run = at (call-case b call)
     where
-      go : (refusal : Option Refusal) → firstFailing (releaseTests b place demand) ≡ refusal
-          → InRun M list bounds
-          (unless refusal (record { outcome = Taken; finishes = []; bench = started b place demand }) b .bench)
-      go none e =
+      at : {one : Call} {step : Step} → CallCase b one step → InRun M list bounds (step .bench)
+      at (refused why q) = run
+      at (released {place} {demand} q may) =
           let allowed : Allowed (b .now .0) demand (getD list (place - 1) noRow) (stateAt b place) =
-          rw (run .rows-are) at (release-allowed b place demand e) in
+          rw (run .rows-are) at (release-allowed b place demand may) in
           record {
             cores-are = run .cores-are;
             rows-are = run .rows-are;
             inv = inv-release (place - 1) allowed (run .inv);
           }
-      go (some why) e = run
-
-  -- a tick, taken or refused
-  run-tick : (b : Bench) → InRun M list bounds b → InRun M list bounds (tick b .bench)
-  unfolding tick unless taken moved served
-  run-tick b run = go (firstFailing (tickTests b))
-    where
-      go : (refusal : Option Refusal) → InRun M list bounds (unless refusal (taken b) b .bench)
-      go none =
+      at (ticked q may) =
           record {
             cores-are = run .cores-are;
             rows-are = run .rows-are;
             inv = rw (run .cores-are, run .rows-are) (inv-tick no-facts (run .inv));
           }
-      go (some why) = run
-
-  run-call : (b : Bench) (call : Call) → InRun M list bounds b → InRun M list bounds (doCall b call .bench)
-  run-call b (releases place demand) = run-release b place demand
-  run-call b ticks = run-tick b
 
   -- every state that a history leads to
   pub run-after : (b : Bench) (calls : List Call) → InRun M list bounds b

@@ -3,7 +3,7 @@ use Prim.Native.Nat.{ℕ, suc, _+_, _-_, _≤_, _<_}
 use mathlib.Core.Path.{_≡_, refl, sym, ap, _∙_}
 use mathlib.Core.Bool.{true}
 use mathlib.Core.List.{List, []}
-use mathlib.Core.Option.{Option, none, some}
+use mathlib.Core.Option.{some}
 use native.Mathlib.Omega.{arith}
 use lib.ListN.{length, take}
 use Rattle.laws.specs.Checks.{firstFailing}
@@ -21,12 +21,12 @@ use Rattle.bench.specs.declared.Last.the-variants.{Never, At}
 use Rattle.bench.specs.declared.Bench.{Bench}
 use Rattle.bench.specs.declared.Refusal.{Refusal}
 use Rattle.bench.specs.declared.Refusal.the-variants.{Unfinished}
-use Rattle.bench.specs.declared.Outcome.the-variants.{Taken}
 use Rattle.bench.specs.Record.{rows, rowAt, stateAt}
-use Rattle.bench.specs.Refusal.{releaseTests, tickTests, refusalPaper, outcomePaper}
+use Rattle.bench.specs.Refusal.{refusalPaper, outcomePaper}
 use Rattle.bench.specs.Serving.{units, finished}
-use Rattle.bench.specs.Step.{unless, started, release, served, taken, tick, emptyBench}
-use Rattle.bench.specs.History.{Call, releases, ticks, doCall, after}
+use Rattle.bench.specs.Step.{Step, served, taken, emptyBench}
+use Rattle.bench.specs.History.{Call, releases, ticks, callTests, doCall, after}
+use Rattle.bench.proofs.Steps.{CallCase, refused, released, ticked, call-case}
 use Rattle.bench.proofs.Kept.{opened-empty}
 use Rattle.running.specs.Running.{boundsOf, boundAt, LessAgo, OverInTime, EndsInTime}
 use Rattle.running.specs.Running.{NotUnfinished, Holds, BoundsHold}
@@ -72,70 +72,43 @@ module _ {M : ℕ} {list : List Row} {bounds : List ℕ} (b : Bench) (run : InRu
       let early = row .early (unfinished .left) in
       omega arith
 
-  pub release-not-unfinished : (place : ℕ) → 1 ≤ place → place ≤ length bounds → (other demand : ℕ)
-      → NotUnfinished place (release b other demand)
-  unfolding release unless outcomePaper
-  release-not-unfinished place first within other demand = go (firstFailing (releaseTests b other demand)) refl
-    where
-      go : (refusal : Option Refusal) → firstFailing (releaseTests b other demand) ≡ refusal
-          → outcomePaper
-          (unless refusal (record { outcome = Taken; finishes = []; bench = started b other demand }) b .outcome)
-          ≡ paper 21 place
-          → ⊥
-      go none e says = let no : _≡_ {A = ℕ} 0 21 = ap (λ (p : Paper). p .number) says in omega arith
-      go (some why) e says =
-          let unfinished = release-unfinished b other demand why e (ap (λ (p : Paper). p .number) says) in
-          let here = named-unfinished place other why (unfinished .why-is) says in
-          none-unfinished other (omega arith) (omega arith) why unfinished
+  -- no call is refused with 21 of such a row,
+  refused-otherwise : (place : ℕ) → 1 ≤ place → place ≤ length bounds → (call : Call) (why : Refusal)
+      → firstFailing (callTests b call) ≡ some why → refusalPaper why ≡ paper 21 place → ⊥
+  unfolding callTests
+  refused-otherwise place first within (releases other demand) why e says =
+      let unfinished = release-unfinished b other demand why e (ap (λ (p : Paper). p .number) says) in
+      let here = named-unfinished place other why (unfinished .why-is) says in
+      none-unfinished other (omega arith) (omega arith) why unfinished
+  refused-otherwise place first within ticks why e says = tick-refusal b why e (ap (λ (p : Paper). p .number) says)
 
-  tick-not-unfinished : (place : ℕ) → NotUnfinished place (tick b)
-  unfolding tick unless taken outcomePaper
-  tick-not-unfinished place = go (firstFailing (tickTests b)) refl
+  call-not-unfinished : (place : ℕ) → 1 ≤ place → place ≤ length bounds → (call : Call)
+      → NotUnfinished place (doCall b call)
+  unfolding taken outcomePaper
+  call-not-unfinished place first within call = at (call-case b call)
     where
-      go : (refusal : Option Refusal) → firstFailing (tickTests b) ≡ refusal
-          → outcomePaper (unless refusal (taken b) b .outcome) ≡ paper 21 place → ⊥
-      go none e says = let no : _≡_ {A = ℕ} 0 21 = ap (λ (p : Paper). p .number) says in omega arith
-      go (some why) e says = tick-refusal b why e (ap (λ (p : Paper). p .number) says)
+      at : {one : Call} {step : Step} → CallCase b one step → NotUnfinished place step
+      at {one} (refused why q) says = refused-otherwise place first within one why q says
+      at (released q may) says = let no : _≡_ {A = ℕ} 0 21 = ap (λ (p : Paper). p .number) says in omega arith
+      at (ticked q may) says = let no : _≡_ {A = ℕ} 0 21 = ap (λ (p : Paper). p .number) says in omega arith
 
-  -- the polls that end in a tick
-  tick-ends : (place : ℕ) → 1 ≤ place → place ≤ length bounds
-      → EndsInTime place (boundAt bounds place) (tick b)
-  unfolding tick unless taken served
-  tick-ends place first within = go (firstFailing (tickTests b))
+  -- and the polls that a call ends, which is a tick, took no longer than the bound
+  call-ends : (place : ℕ) → 1 ≤ place → place ≤ length bounds → (call : Call)
+      → EndsInTime place (boundAt bounds place) (doCall b call)
+  unfolding taken served
+  call-ends place first within call = at (call-case b call)
     where
-      go : (refusal : Option Refusal) → EndsInTime place (boundAt bounds place) (unless refusal (taken b) b)
-      go none =
+      at : {one : Call} {step : Step} → CallCase b one step → EndsInTime place (boundAt bounds place) step
+      at (refused why q) = tt
+      at (released q may) = tt
+      at (ticked q may) =
           rw (run .rows-are)
           (each-map (λ poll ended is. ended .1 (place - 1) (omega arith) (omega arith))
           (finished (suc (b .now .0)) 1 (units (b .cores) (take (length list) (b .states))) (b .states))
           (ended-in-time (run .inv) 1 (b .cores)))
-      go (some why) = tt
 
-  -- and none ends in a release
-  release-ends : (place bound other demand : ℕ) → EndsInTime place bound (release b other demand)
-  unfolding release unless
-  release-ends place bound other demand = go (firstFailing (releaseTests b other demand))
-    where
-      go : (refusal : Option Refusal)
-          → EndsInTime place bound
-          (unless refusal (record { outcome = Taken; finishes = []; bench = started b other demand }) b)
-      go none = tt
-      go (some why) = tt
-
--- each step of a history
 module _ {M : ℕ} {list : List Row} {bounds : List ℕ} (place : ℕ)
     (first : 1 ≤ place) (within : place ≤ length bounds) where
-  call-ends : (b : Bench) (call : Call) → InRun M list bounds b
-      → EndsInTime place (boundAt bounds place) (doCall b call)
-  call-ends b (releases other demand) run = release-ends b run place (boundAt bounds place) other demand
-  call-ends b ticks run = tick-ends b run place first within
-
-  call-not-unfinished : (b : Bench) (call : Call) → InRun M list bounds b
-      → NotUnfinished place (doCall b call)
-  call-not-unfinished b (releases other demand) run =
-      release-not-unfinished b run place first within other demand
-  call-not-unfinished b ticks run = tick-not-unfinished b run place
-
   -- a bound holds in each history from a bench in a run
   run-holds : (start : Bench) (calls : List Call) → InRun M list bounds start
       → Holds start calls place (boundAt bounds place)
@@ -143,9 +116,14 @@ module _ {M : ℕ} {list : List Row} {bounds : List ℕ} (place : ℕ)
       let end = run-after start calls run in
       record {
         over-in-time = bench-over (after start calls) end place first within;
-        ends-in-time = run-steps (EndsInTime place (boundAt bounds place)) call-ends start calls run;
-        not-unfinished = run-steps (NotUnfinished place) call-not-unfinished start calls run;
-        next-not-unfinished = release-not-unfinished (after start calls) end place first within place;
+        ends-in-time =
+            run-steps (EndsInTime place (boundAt bounds place))
+            (λ b call run. call-ends b run place first within call) start calls run;
+        not-unfinished =
+            run-steps (NotUnfinished place)
+            (λ b call run. call-not-unfinished b run place first within call) start calls run;
+        next-not-unfinished = λ demand.
+            call-not-unfinished (after start calls) end place first within (releases place demand);
       }
 
 -- an empty bench is in a run

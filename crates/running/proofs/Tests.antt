@@ -3,7 +3,7 @@ use Prim.Native.Nat.{ℕ, _-_, _≤_, _<_}
 use mathlib.Core.Path.{_≡_, refl}
 use mathlib.Core.Bool.{Bool, true, false, _||_}
 use mathlib.Core.List.{[], _∷_}
-use mathlib.Core.Option.{none, some}
+use mathlib.Core.Option.{some}
 use native.Mathlib.Omega.{arith}
 use lib.Dec.{eqb, ltb}
 use lib.ListN.{length}
@@ -20,7 +20,7 @@ use Rattle.bench.specs.declared.Refusal.the-variants.{ClockEnd, BrokenRecord}
 use Rattle.bench.specs.Record.{rows, rowAt, stateAt, work, broken, lastInstant}
 use Rattle.bench.specs.Refusal.{tooSoon, releaseTests, tickTests, refusalPaper}
 use Rattle.bench.proofs.Gaps.{gap-kept}
-use Rattle.bench.proofs.Permitted.{may-release}
+use Rattle.bench.proofs.Permitted.{MayRelease}
 use Rattle.running.proofs.State.{isAt, instantOf, ever, came}
 use Rattle.running.proofs.Release.{Allowed}
 
@@ -60,10 +60,8 @@ pub record UnfinishedAt (b : Bench) (place : ℕ) (why : Refusal) : Type 0 where
   pub left : 0 < work (stateAt b place)
 
 module _ (b : Bench) (place demand : ℕ) where
-  pub release-allowed : firstFailing (releaseTests b place demand) ≡ none
-      → Allowed (b .now .0) demand (rowAt b place) (stateAt b place)
-  release-allowed e =
-      let may = may-release b place demand e in
+  pub release-allowed : MayRelease b place demand → Allowed (b .now .0) demand (rowAt b place) (stateAt b place)
+  release-allowed may =
       record {
         some = may .some-demand;
         fits = may .fits;
