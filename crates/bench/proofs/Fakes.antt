@@ -15,7 +15,7 @@ use Rattle.bench.specs.declared.Finish.{Finish}
 use Rattle.bench.specs.Record.{idle, work, stateAt, lastBroken, rowBroken, rowsBroken, isFault, broken}
 use Rattle.bench.specs.Refusal.{tickTests, refusalPaper}
 use Rattle.bench.specs.Serving.{unit, units, workers, less, worked, ends, since, finishOf, finished}
-use Rattle.bench.specs.Step.{fresh, unless, served, moved, taken, tick}
+use Rattle.bench.specs.Step.{emptyBench, fresh, unless, later, served, moved, taken, tick}
 use Rattle.bench.specs.History.{ticks, callTests}
 use Rattle.bench.specs.TickRule.{Gets, PollEnds}
 use Rattle.bench.specs.Rules.{callChecks, PermittedCall, TicksByRule}
@@ -28,15 +28,15 @@ abbrev board : Table
 board = record { count = 1; rows = rowOf 1 4 4 ∷ replicate 31 noRow }
 
 abbrev b : Bench
-b = record { cores = 1; table = board; now = record { 0 = 1 }; states = fresh 1 1 ∷ replicate 31 idle }
+b = later (emptyBench 1 board) (fresh 1 1 ∷ replicate 31 idle)
 
 may : PermittedCall b ticks
-unfolding callChecks callTests tickTests refusalPaper broken rowsBroken rowBroken lastBroken isFault
+unfolding emptyBench callChecks callTests tickTests refusalPaper broken rowsBroken rowBroken lastBroken isFault
     rowsOf rowChecks rowsChecks listChecks firstFailing faultFrom listFault
 may = (refl, (refl, tt))
 
 gets : Gets b 1
-unfolding rowsOf workers
+unfolding emptyBench rowsOf workers
 gets = record { first = omega arith; last = omega arith; has-work = omega arith; among-highest = omega arith }
 
 -- the poll that ends in the tick: its response is one tick
@@ -44,6 +44,7 @@ abbrev poll : (response : ℕ) → Finish
 poll response = record { place = 1; response = record { 0 = response } }
 
 ends-in : PollEnds b (poll 1)
+unfolding emptyBench
 ends-in =
     record {
       gets = gets;
@@ -55,18 +56,18 @@ ends-in =
 
 -- The row gets nothing from the one,
 once-idles : work (stateAt (once b .bench) 1) ≡ 1
-unfolding once idled
+unfolding emptyBench once idled
 once-idles = refl
 
 once-caught : TicksByRule once → ⊥
-unfolding less
+unfolding emptyBench less
 once-caught rule =
     let served = ap work (rule b refl may .one-unit 1 gets) in
     omega (arith, served, once-idles)
 
 -- and the other says two ticks.
 two-said : inventing b .finishes ≡ poll 2 ∷ []
-unfolding inventing invented tick unless taken served moved firstFailing tickTests broken rowsBroken
+unfolding emptyBench inventing invented tick unless taken served moved firstFailing tickTests broken rowsBroken
     rowBroken lastBroken isFault rowsOf rowChecks rowsChecks listChecks faultFrom listFault
     unit units less worked ends since finishOf finished
 two-said = refl

@@ -19,7 +19,7 @@ use Rattle.bench.specs.declared.Outcome.the-variants.{Taken}
 use Rattle.bench.specs.Record.{idle, rows}
 use Rattle.bench.specs.Serving.{units, worked, finished, finishOf, turnOf}
 use Rattle.bench.specs.Ended.{finishesOf, noted}
-use Rattle.bench.specs.Step.{served, moved, taken, tickedOf}
+use Rattle.bench.specs.Step.{later, served, moved, taken, tickedOf}
 use Rattle.bench.proofs.Ended.{notedAll, noted-count}
 use Rattle.bench.proofs.Serving.{servedStates, endedPolls, served-turn, noted-turn, served-end, noted-end, ended-all}
 
@@ -60,7 +60,7 @@ serves-next b states free f i s h h' t et p ep g eg =
 
 -- past the last row the tick is made
 pub serves-last : (b : Bench) (states : List RowState) (free : ℕ) (f : Finishes) (i : ℕ) → Serves b states free f i → b .table .count ≤ i → b .table .count ≤ rowCapacity
-    → tickedOf (taken b) ≡ record { outcome = Taken; finishes = f; bench = record { cores = b .cores; table = b .table; now = record { 0 = b .now .0 + 1 }; states = states } }
+    → tickedOf (taken b) ≡ record { outcome = Taken; finishes = f; bench = later b states }
 unfolding tickedOf taken moved served
 serves-last b states free f i s h h' =
     let n : b .table .count - i ≡ 0 = omega arith in

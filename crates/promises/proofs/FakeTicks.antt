@@ -1,7 +1,6 @@
 -- Neither fake bench passes: a board of one core and one row, whose poll is released at instant 1, shows it.
-use Prim.Native.Nat.{ℕ, zero, suc, _+_, _≤_}
+use Prim.Native.Nat.{ℕ, zero, suc, _≤_}
 use native.Mathlib.Omega.{arith}
-use native.Mathlib.Numerals.{add-one}
 use mathlib.Core.Bool.{false}
 use mathlib.Core.Path.{_≡_, refl, sym, ap, _∙_}
 use mathlib.Core.List.{List, [], _∷_, _++_, map, cons-ne-nil, head-eq-of-cons-eq}
@@ -27,7 +26,8 @@ use Rattle.bench.specs.declared.Outcome.the-variants.{Taken}
 use Rattle.bench.specs.Record.{lastBroken, rowBroken, rowsBroken, isFault, broken}
 use Rattle.bench.specs.Refusal.{tooSoon, releaseTests, tickTests}
 use Rattle.bench.specs.Serving.{unit, units, less, worked, ends, since, finishOf, finished}
-use Rattle.bench.specs.Step.{Step, emptyBench, openedAfter, opened, unless, started, release, served, moved, taken, tick}
+use Rattle.bench.specs.Step.{Step, emptyBench, openedAfter, opened, unless, started, release, later}
+use Rattle.bench.specs.Step.{served, moved, taken, tick}
 use Rattle.bench.specs.History.{Call, releases, ticks, doCall, after}
 use Rattle.bench.specs.Fakes.{idled, once, invented, inventing}
 use Rattle.running.proofs.Parts.{last-step}
@@ -62,7 +62,7 @@ abbrev just-released : RowState
 just-released = record { last = At (record { 0 = 1 }); demand = record { 0 = 1 }; left = record { 0 = 1 } }
 
 abbrev b : Bench
-b = record { cores = 1; table = board; now = record { 0 = 1 }; states = just-released ∷ replicate 31 neverReleased }
+b = later start (just-released ∷ replicate 31 neverReleased)
 
 released-one : release (tick start .bench) 1 1 .bench ≡ b
 unfolding rowsOf rowChecks rowsChecks listChecks firstFailing faultFrom listFault lastBroken rowBroken
@@ -102,7 +102,7 @@ module _ (run : Bench → Step) (fake : ServesOnce run) where
   calls = ticks ∷ releases 1 1 ∷ ticks ∷ []
 
   abbrev idle : Bench
-  idle = record { cores = 1; table = board; now = record { 0 = 2 }; states = b .states }
+  idle = later b (b .states)
 
   once-idles : afterWith run start calls ≡ idle
   once-idles =
@@ -157,18 +157,13 @@ unfolding once idled
 one-serves-once =
     record {
       first-tick = λ b e. rw e refl;
-      later-ticks = λ b h. later b (b .now .0) refl h;
+      later-ticks = λ b h. idles b (b .now .0) refl h;
     }
   where
-    later : (c : Bench) (n : ℕ) → c .now .0 ≡ n → 1 ≤ n
-        → once c
-        ≡ record {
-          outcome = Taken;
-          finishes = [];
-          bench = record { cores = c .cores; table = c .table; now = record { 0 = n + 1 }; states = c .states };
-        }
-    later c zero e h = absurd (omega arith)
-    later c (suc n) e h = rw (add-one, e) refl
+    idles : (c : Bench) (n : ℕ) → c .now .0 ≡ n → 1 ≤ n
+        → once c ≡ record { outcome = Taken; finishes = []; bench = later c (c .states) }
+    idles c zero e h = absurd (omega arith)
+    idles c (suc n) e h = rw e refl
 
 invents-each : (instant : ℕ) (polls : List Finish)
     → Each (λ (p : Finish). p .response .0 ≡ instant) (map (invented instant) polls)

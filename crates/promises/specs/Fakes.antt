@@ -1,5 +1,5 @@
 -- The fakes that have to be caught: those of document 01, and a tool that judges rows out of order.
-use Prim.Native.Nat.{ℕ, _+_, _≤_, _<_}
+use Prim.Native.Nat.{ℕ, _≤_, _<_}
 use mathlib.Core.Path.{_≡_}
 use mathlib.Core.List.{List, [], _∷_, map}
 use mathlib.Core.Option.{some}
@@ -19,7 +19,7 @@ use Rattle.sheetpages.specs.Sheets.{behind, blankEntry, WholeWith, RowRead}
 use Rattle.bench.specs.declared.Bench.{Bench}
 use Rattle.bench.specs.declared.Finish.{Finish}
 use Rattle.bench.specs.declared.Outcome.the-variants.{Taken}
-use Rattle.bench.specs.Step.{Step, opened, release, tick}
+use Rattle.bench.specs.Step.{Step, opened, release, later, tick}
 use Rattle.bench.specs.History.{Call, releases, ticks}
 use Rattle.bench.specs.Fakes.{once, inventing}
 use Rattle.benchpages.specs.Calls.{stateOn}
@@ -80,17 +80,7 @@ AsTheRecordsStand order =
 pub record ServesOnce (run : Bench → Step) : Type 0 where
   pub first-tick : (b : Bench) → b .now .0 ≡ 0 → run b ≡ tick b
   pub later-ticks : (b : Bench) → 1 ≤ b .now .0
-      → run b
-      ≡ record {
-        outcome = Taken;
-        finishes = [];
-        bench = record {
-          cores = b .cores;
-          table = b .table;
-          now = record { 0 = b .now .0 + 1 };
-          states = b .states;
-        };
-      }
+      → run b ≡ record { outcome = Taken; finishes = []; bench = later b (b .states) }
 
 -- One that invents response times: it ticks rightly, and each poll that it lists has the clock's reading for
 -- its response.

@@ -1,5 +1,6 @@
 -- serve makes a tick by one turn for each row of the table.
 use Prim.Native.Nat.{_+_, _-_}
+use native.Mathlib.Numerals.{add-one}
 use native.Mathlib.Omega.{arith}
 use mathlib.Core.Path.{_≡_, sym, ap}
 use borrow.Author.Needs.{needs}
@@ -77,7 +78,8 @@ returns : tie.Need-returns Inv-loop μ-loop
 returns c =
     let l = c .before .before in
     let b = l .before .before .before .before .before .args .b in
-    sym (serves-last b (l .loop .states) (l .loop .free) (l .loop .finishes) (l .loop .i) (l .loop .inv) (omega arith) (omega arith))
+    let last = serves-last b (l .loop .states) (l .loop .free) (l .loop .finishes) (l .loop .i) (l .loop .inv) in
+    rw add-one (sym (last (omega arith) (omega arith)))
 
 pub serve-spec : {M : Type 1} → statement M
 serve-spec =
