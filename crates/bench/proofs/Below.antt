@@ -196,7 +196,7 @@ module _ {Good : Bench → Type 0} (steady : Steady Good) (k : ℕ) (b b' : Benc
       at (released {place} {demand} q may) c =
           let past : leb place k ≡ false = rw (lt-ltb 0 place (may .low)) at c in
           agree-below steady k b b' a place demand (leb-false place k past)
-      at (ticked q may) c = let z : _≡_ {A = ℕ} 0 1 = cc in absurd (omega arith)
+      at (ticked q may) c = absurd (not-one cc)
 
 -- One call, and whole histories, of which the second has only what concerns the rows down to k.
 tall-call : (k : ℕ) (b : Bench) (call : Call) → k ≤ length (rows b) → k ≤ length (rows (doCall b call .bench))

@@ -173,7 +173,7 @@ starts b place demand kept = at (call-case b (releases place demand))
   where
     at : {step : Step} → CallCase b (releases place demand) step → step .outcome ≡ Taken
         → Waits place (b .now .0) (step .bench)
-    at (refused why q) is = let z : _≡_ {A = ℕ} 0 1 = cc in absurd (omega arith)
+    at (refused why q) is = absurd (not-one cc)
     at (poll-started q may) is =
         let here = started-here b place demand kept may in
         record {
