@@ -9,7 +9,7 @@ use mathlib.Core.Option.{some}
 use lib.Dec.{eqb}
 use lib.ListN.{length, getD, take, set, replicate}
 use lib.Seq.{getD-set-same, getD-set-other, getD-take}
-use borrow.Author.Tests.{eqb-true, eqb-false, eq-eqb, ne-eqb}
+use borrow.Author.Tests.{eqb-true, eqb-false}
 use Rattle.laws.proofs.Lists.{getD-repeated}
 use Rattle.quantities.specs.Limits.{rowCapacity}
 use Rattle.quantities.specs.Table.{rowsOf}
@@ -17,11 +17,11 @@ use Rattle.quantities.specs.declared.Table.{Table}
 use Rattle.quantities.proofs.Rows.{length-rows}
 use Rattle.bench.specs.declared.Bench.{Bench}
 use Rattle.bench.specs.declared.Outcome.the-variants.{Taken, Refused}
-use Rattle.bench.specs.Record.{idle, work, rows, stateAt}
-use Rattle.bench.specs.Serving.{units, less, worked}
+use Rattle.bench.specs.State.{idle, work, rows, stateAt}
+use Rattle.bench.specs.Serving.{units, afterUnits, worked}
 use Rattle.bench.specs.Step.{Step, emptyBench, opened, fresh, started, served, moved, taken, release, tick}
 use Rattle.bench.specs.History.{Call, releases, ticks, doCall, after, isTaken, brought, gave, accepted, servedIn}
-use Rattle.bench.proofs.Record.{sound-fits}
+use Rattle.bench.proofs.State.{sound-fits}
 use Rattle.bench.proofs.Permitted.{MayRelease}
 use Rattle.bench.proofs.Units.{unit-le-work, worked-at}
 use Rattle.bench.proofs.Steps.{CallCase, refused, released, ticked, call-case, same-board}
@@ -42,7 +42,7 @@ module _ (b : Bench) (place demand : ℕ) (k : Kept b) (m : MayRelease b place d
       getD-set-other (b .states) (place - 1) (other - 1) (fresh (b .now .0) demand) idle (λ e. n (omega (arith, m .low)))
 
 -- A tick, seen from a place.
-pub moved-at : (b : Bench) (place : ℕ) → stateAt (moved b) place ≡ less (getD (served b) (place - 1) 0) (stateAt b place)
+pub moved-at : (b : Bench) (place : ℕ) → stateAt (moved b) place ≡ afterUnits (getD (served b) (place - 1) 0) (stateAt b place)
 unfolding moved
 moved-at b place = worked-at (served b) (b .states) (place - 1)
 
@@ -82,7 +82,7 @@ module _ (b : Bench) (k : Kept b) (place : ℕ) (low : 0 < place) (high : place 
       at (released q may) = here (eqb other place) refl may
 
   tick-balance : work (stateAt b place) ≡ gave place b ticks + work (stateAt (tick b .bench) place)
-  unfolding gave isTaken taken less
+  unfolding gave isTaken taken afterUnits
   tick-balance = at (call-case b ticks)
     where
       at : {step : Step} → CallCase b ticks step

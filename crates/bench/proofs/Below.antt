@@ -9,7 +9,7 @@ use mathlib.Core.Option.{some}
 use lib.Dec.{eqb, leb, ltb}
 use lib.ListN.{length, getD, take, set, replicate}
 use lib.Seq.{getD-take, take-take, take-set-lt, take-set-le}
-use borrow.Author.Tests.{lt-ltb, le-ltb, ltb-true, ltb-false, leb-true, leb-false, ne-eqb}
+use borrow.Author.Tests.{lt-ltb, le-ltb, ltb-true, leb-true, leb-false, ne-eqb}
 use Rattle.laws.specs.Checks.{Check, checkFor, firstFailing}
 use Rattle.laws.proofs.Tests.{and-true, not-one}
 use Rattle.quantities.specs.Limits.{rowCapacity}
@@ -24,13 +24,13 @@ use Rattle.bench.specs.declared.Refusal.the-variants.{NoPlace, Unfinishe
 use Rattle.bench.specs.declared.Finish.{Finish}
 use Rattle.bench.specs.declared.Outcome.{Outcome}
 use Rattle.bench.specs.declared.Outcome.the-variants.{Taken, Refused}
-use Rattle.bench.specs.Record.{lastInstant, idle, work, rows, rowAt, stateAt, broken}
+use Rattle.bench.specs.State.{lastInstant, idle, work, rows, rowAt, stateAt, broken}
 use Rattle.bench.specs.Refusal.{soonAt, fullAt, releaseTests, tickTests}
 use Rattle.bench.specs.Serving.{units, worked, finished}
 use Rattle.bench.specs.Step.{Step, emptyBench, opened, fresh, started, served, moved, taken, release}
 use Rattle.bench.specs.History.{Call, releases, ticks, callTests, doCall, after, concerns, callsTo, finishesTo}
 use Rattle.bench.specs.History.{Heard, heardOf, heard, SameRun}
-use Rattle.bench.proofs.Record.{whole-unbroken}
+use Rattle.bench.proofs.State.{whole-unbroken}
 use Rattle.bench.proofs.Steps.{refused-step, taken-step, CallCase, refused, released, ticked, call-case}
 use Rattle.bench.proofs.Kept.{Kept, kept-call, kept-opened, opened-empty}
 use Rattle.bench.proofs.Balance.{same-rows}

@@ -12,10 +12,10 @@ use Rattle.quantities.specs.Checks.{rowChecks, rowsChecks, listChecks, faultFro
 use Rattle.quantities.specs.declared.Table.{Table}
 use Rattle.bench.specs.declared.Bench.{Bench}
 use Rattle.bench.specs.declared.Finish.{Finish}
-use Rattle.bench.specs.Record.{idle, work, stateAt, lastBroken, rowBroken, rowsBroken, isFault, broken}
+use Rattle.bench.specs.State.{idle, work, stateAt, lastBroken, rowBroken, rowsBroken, isFault, broken}
 use Rattle.bench.specs.Refusal.{tickTests, refusalPaper}
-use Rattle.bench.specs.Serving.{unit, units, workers, less, worked, ends, since, finishOf, finished}
-use Rattle.bench.specs.Step.{emptyBench, fresh, unless, later, served, moved, taken, tick}
+use Rattle.bench.specs.Serving.{unit, units, workers, afterUnits, worked, ends, since, finishOf, finished}
+use Rattle.bench.specs.Step.{emptyBench, fresh, unlessRefused, later, served, moved, taken, tick}
 use Rattle.bench.specs.History.{ticks, callTests}
 use Rattle.bench.specs.TickRule.{Gets, PollEnds}
 use Rattle.bench.specs.Rules.{callChecks, PermittedCall, TicksByRule}
@@ -60,16 +60,16 @@ unfolding emptyBench once idled
 once-idles = refl
 
 once-caught : TicksByRule once → ⊥
-unfolding emptyBench less
+unfolding emptyBench afterUnits
 once-caught rule =
     let served = ap work (rule b refl may .one-unit 1 gets) in
     omega (arith, served, once-idles)
 
 -- and the other says two ticks.
 two-said : inventing b .finishes ≡ poll 2 ∷ []
-unfolding emptyBench inventing invented tick unless taken served moved firstFailing tickTests broken rowsBroken
+unfolding emptyBench inventing invented tick unlessRefused taken served moved firstFailing tickTests broken rowsBroken
     rowBroken lastBroken isFault rowsOf rowChecks rowsChecks listChecks faultFrom listFault
-    unit units less worked ends since finishOf finished
+    unit units afterUnits worked ends since finishOf finished
 two-said = refl
 
 inventing-caught : TicksByRule inventing → ⊥

@@ -11,11 +11,11 @@ use Rattle.bench.specs.declared.Last.{Last}
 use Rattle.bench.specs.declared.Last.the-variants.{Never, At}
 use Rattle.bench.specs.declared.Bench.{Bench}
 use Rattle.bench.specs.declared.Finish.{Finish}
-use Rattle.bench.specs.Record.{lastInstant, rows, stateAt}
+use Rattle.bench.specs.State.{lastInstant, rows, stateAt}
 use Rattle.bench.specs.Serving.{since}
 use Rattle.bench.specs.Step.{Step, taken, tick}
 use Rattle.bench.specs.History.{ticks}
-use Rattle.bench.proofs.Record.{whole-of, sound-fits}
+use Rattle.bench.proofs.State.{whole-of, sound-fits}
 use Rattle.bench.proofs.Steps.{CallCase, refused, ticked, call-case}
 use Rattle.bench.proofs.Responses.{Ends, each-ends}
 

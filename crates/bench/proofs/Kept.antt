@@ -7,7 +7,7 @@ use mathlib.Core.List.{List, [], _∷_}
 use mathlib.Core.Option.{Option, none, some}
 use lib.Dec.{ltb}
 use lib.ListN.{length, getD, take, set, replicate, length-set, length-replicate}
-use borrow.Author.Tests.{lt-ltb, le-ltb, ltb-false}
+use borrow.Author.Tests.{le-ltb, ltb-false}
 use Rattle.laws.specs.Checks.{checkFor, firstFailing}
 use Rattle.laws.proofs.Checks.{told-has, first-passes}
 use Rattle.laws.proofs.Tests.{or-false, not-one}
@@ -25,12 +25,12 @@ use Rattle.bench.specs.declared.Bench.{Bench}
 use Rattle.bench.specs.declared.Refusal.{Refusal}
 use Rattle.bench.specs.declared.Refusal.the-variants.{NoPlace, Unfinished, TooSoon, WrongDemand, ClockEnd, BrokenRecord}
 use Rattle.bench.specs.declared.Outcome.the-variants.{Taken, Refused}
-use Rattle.bench.specs.Record.{lastInstant, idle, work, rows, rowAt, lastBroken, rowBroken, rowsBroken, broken}
+use Rattle.bench.specs.State.{lastInstant, idle, work, rows, rowAt, lastBroken, rowBroken, rowsBroken, broken}
 use Rattle.bench.specs.Refusal.{releaseTests, tickTests}
-use Rattle.bench.specs.Serving.{less, worked}
+use Rattle.bench.specs.Serving.{afterUnits, worked}
 use Rattle.bench.specs.Step.{Step, emptyBench, openedAfter, opened, fresh, started, served, moved, taken, tick}
 use Rattle.bench.specs.History.{Call, releases, ticks, callTests, doCall, after}
-use Rattle.bench.proofs.Record.{Whole, whole-of, whole-unbroken}
+use Rattle.bench.proofs.State.{Whole, whole-unbroken}
 use Rattle.bench.proofs.Permitted.{MayRelease, MayTick, tick-24}
 use Rattle.bench.proofs.Rows.{less-none}
 use Rattle.bench.proofs.Units.{length-worked}
@@ -106,14 +106,14 @@ rows-set now (row ∷ rest) (s ∷ states) (suc i) state e k =
     let (h, t) = rows-below-kept now row rest s states e in
     rows-unbroken now row rest s (set states i state) h (rows-set now rest states i state t k)
 
--- and so are rows a tick later with less work.
+-- and so are rows a tick later with afterUnits work.
 last-later : (now u : ℕ) (last : Last) (left : ℕ) → lastBroken now last left ≡ false → lastBroken (suc now) last (left - u) ≡ false
 unfolding lastBroken
 last-later now u Never left e = le-ltb 0 (left - u) (omega (arith, ltb-false 0 left e))
 last-later now u (At at) left e = le-ltb (suc now) (at .0) (omega (arith, ltb-false now (at .0) e))
 
-less-kept : (now u : ℕ) (row : Row) (state : RowState) → RowKept now row state → RowKept (suc now) row (less u state)
-unfolding less
+less-kept : (now u : ℕ) (row : Row) (state : RowState) → RowKept now row state → RowKept (suc now) row (afterUnits u state)
+unfolding afterUnits
 less-kept now u row state k =
     record { past = last-later now u (state .last) (work state) (k .past); fits = k .fits; rest = omega (arith, k .rest) }
 
@@ -130,7 +130,7 @@ rows-later now (row ∷ rest) [] (s ∷ states) e =
     rows-unbroken (suc now) row rest s states (later-kept now row s h) (rows-later now rest [] states t)
 rows-later now (row ∷ rest) (u ∷ us) (s ∷ states) e =
     let (h, t) = rows-below-kept now row rest s states e in
-    rows-unbroken (suc now) row rest (less u s) (worked us states) (less-kept now u row s h) (rows-later now rest us states t)
+    rows-unbroken (suc now) row rest (afterUnits u s) (worked us states) (less-kept now u row s h) (rows-later now rest us states t)
 
 -- The bench: opened, after a release, after a tick.
 pub kept-empty : (cores : ℕ) (table : Table) → listFault cores (rowsOf table) ≡ none → Kept (emptyBench cores table)

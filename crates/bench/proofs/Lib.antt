@@ -1,6 +1,6 @@
 -- Laws of the bench's definitions.
 pub mod Rows
-pub mod Record
+pub mod State
 pub mod Open
 pub mod Permitted
 pub mod Ended

@@ -17,7 +17,7 @@ use Rattle.bench.specs.declared.RowState.{RowState}
 use Rattle.bench.specs.declared.Bench.{Bench}
 use Rattle.bench.specs.declared.Finish.{Finish}
 use Rattle.bench.specs.declared.Outcome.{Outcome}
-use Rattle.bench.specs.Record.{idle, stateAt}
+use Rattle.bench.specs.State.{idle, stateAt}
 use Rattle.bench.specs.Step.{Step, served}
 use Rattle.bench.specs.TickRule.{Gets, PollEnds, RisingPlaces, TickRule}
 use Rattle.bench.specs.Rules.{ReleaseRule, OneRelease, OneTick}

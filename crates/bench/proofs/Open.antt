@@ -11,7 +11,7 @@ use Rattle.quantities.specs.declared.Fault.{Fault}
 use Rattle.quantities.specs.declared.Checked.the-variants.{Sound, Faulty}
 use Rattle.quantities.proofs.Checks.{checked-sound, checked-faulty}
 use Rattle.bench.specs.declared.Bench.{Bench}
-use Rattle.bench.specs.Record.{isFault, broken}
+use Rattle.bench.specs.State.{isFault, broken}
 use Rattle.bench.specs.Step.{emptyBench, noBench, openedAfter, opened, benchOr, openingOf}
 
 -- where the checks find a fault, there is no bench

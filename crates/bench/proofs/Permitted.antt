@@ -18,7 +18,7 @@ use Rattle.bench.specs.declared.Bench.{Bench}
 use Rattle.bench.specs.declared.Refusal.{Refusal}
 use Rattle.bench.specs.declared.Refusal.the-variants.{NoPlace, Unfinished, TooSoon, WrongDemand, ClockEnd, BrokenRecord}
 use Rattle.bench.specs.declared.Outcome.the-variants.{Taken, Refused}
-use Rattle.bench.specs.Record.{lastInstant, rows, rowAt, stateAt, work, broken}
+use Rattle.bench.specs.State.{lastInstant, rows, rowAt, stateAt, work, broken}
 use Rattle.bench.specs.Refusal.{tooSoon, releaseTests, tickTests, outcomeOf}
 
 -- A release of `demand` at `place` is permitted.

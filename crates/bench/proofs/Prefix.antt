@@ -10,8 +10,8 @@ use lib.Seq.{take-nil}
 use borrow.Author.Tests.{le-leb, lt-leb}
 use Rattle.bench.specs.declared.RowState.{RowState}
 use Rattle.bench.specs.declared.Finish.{Finish}
-use Rattle.bench.specs.Record.{work}
-use Rattle.bench.specs.Serving.{unit, units, less, worked, ends, finishOf, finished}
+use Rattle.bench.specs.State.{work}
+use Rattle.bench.specs.Serving.{unit, units, afterUnits, worked, ends, finishOf, finished}
 use Rattle.bench.specs.History.{finishesTo}
 
 pub take-units : (n free : ℕ) (states : List RowState) → take n (units free states) ≡ units free (take n states)
@@ -25,7 +25,7 @@ unfolding worked
 take-worked zero us states = refl
 take-worked (suc n) [] states = refl
 take-worked (suc n) (u ∷ us) [] = refl
-take-worked (suc n) (u ∷ us) (s ∷ states) = ap (λ ss. less u s ∷ ss) (take-worked n us states)
+take-worked (suc n) (u ∷ us) (s ∷ states) = ap (λ ss. afterUnits u s ∷ ss) (take-worked n us states)
 
 -- polls of rows below place k are none of the rows down to k
 finishes-past : (k t place : ℕ) → k < place → (us : List ℕ) (states : List RowState) → finishesTo k (finished t place us states) ≡ []

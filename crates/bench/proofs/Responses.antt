@@ -9,7 +9,6 @@ use mathlib.Core.Bool.{Bool, true, false, _&&_}
 use mathlib.Core.List.{List, [], _∷_}
 use lib.Dec.{eqb, ltb}
 use lib.ListN.{length, getD, take, length-take, List·getD-eq-default}
-use lib.Seq.{getD-take}
 use borrow.Author.Tests.{ltb-true, eqb-true, lt-ltb, eq-eqb}
 use Rattle.laws.specs.Each.{Each}
 use Rattle.laws.specs.Member.{Member}
@@ -17,7 +16,7 @@ use Rattle.laws.proofs.Tests.{and-true}
 use Rattle.bench.specs.declared.RowState.{RowState}
 use Rattle.bench.specs.declared.Bench.{Bench}
 use Rattle.bench.specs.declared.Finish.{Finish}
-use Rattle.bench.specs.Record.{idle, work, rows, stateAt}
+use Rattle.bench.specs.State.{idle, work, rows, stateAt}
 use Rattle.bench.specs.Serving.{units, ends, since, finishOf, finished}
 use Rattle.bench.specs.Step.{served, taken}
 use Rattle.bench.specs.TickRule.{RisingPlaces}

@@ -5,14 +5,14 @@ use native.Mathlib.Omega.{arith}
 use mathlib.Core.Path.{_≡_, refl, sym, _∙_}
 use mathlib.Core.Bool.{Bool, true, false, _||_}
 use lib.Dec.{eqb}
-use borrow.Author.Tests.{eq-eqb, ne-eqb, lt-ltb, le-ltb}
+use borrow.Author.Tests.{ne-eqb}
 use Rattle.quantities.specs.declared.Instant.{Instant}
 use Rattle.bench.specs.declared.Last.{Last}
 use Rattle.bench.specs.declared.Last.the-variants.{Never, At}
 use Rattle.bench.specs.declared.RowState.{RowState}
 use Rattle.bench.specs.declared.Turn.{Turn}
-use Rattle.bench.specs.Record.{work, lastBroken}
-use Rattle.bench.specs.Serving.{unit, less, ends, since, turnOf}
+use Rattle.bench.specs.State.{work, lastBroken}
+use Rattle.bench.specs.Serving.{unit, afterUnits, ends, since, turnOf}
 
 -- Since a release that is after the instant there are none.
 pub since-later : (instant : ℕ) (last : Last) (at : Instant) → last ≡ At at → instant < at .0 → since instant last ≡ 0
@@ -33,8 +33,8 @@ unfolding unit
 unit-one free left f l = omega arith
 
 -- a row that gets nothing stays as it is
-pub less-none : (state : RowState) → less 0 state ≡ state
-unfolding less
+pub less-none : (state : RowState) → afterUnits 0 state ≡ state
+unfolding afterUnits
 less-none state = rw (sub-zero (work state))
 
 turn-none : (free : ℕ) (state : RowState) → unit free (work state) ≡ 0 → turnOf free state ≡ record { state = state; free = free; ends = false }
@@ -50,7 +50,7 @@ turn-no-work free state e = turn-none free state (rw e (unit-no-work free))
 
 pub turn-one : (free : ℕ) (state : RowState) → 0 < free → 0 < work state
     → turnOf free state ≡ record { state = record { last = state .last; demand = state .demand; left = record { 0 = work state - 1 } }; free = free - 1; ends = eqb (work state) 1 }
-unfolding turnOf ends less
+unfolding turnOf ends afterUnits
 turn-one free state f l = rw (unit-one free (work state) f l, last-unit (work state) l)
   where
     last-unit : (left : ℕ) → 0 < left → eqb (left - 1) 0 ≡ eqb left 1

@@ -23,7 +23,7 @@ use Rattle.quantities.proofs.Paper.{turned-away}
 use Rattle.bench.specs.declared.Bench.{Bench}
 use Rattle.bench.specs.declared.Refusal.{Refusal}
 use Rattle.bench.specs.declared.Outcome.the-variants.{Taken}
-use Rattle.bench.specs.Record.{idle, rows, rowAt, stateAt, work}
+use Rattle.bench.specs.State.{idle, rows, rowAt, stateAt, work}
 use Rattle.bench.specs.Refusal.{tooSoon, releaseTests, tickTests}
 use Rattle.bench.specs.Refusal.{refusalPaper, outcomePaper}
 use Rattle.bench.specs.Step.{emptyBench, openedAfter, opened, benchOr, openingOf}
@@ -35,7 +35,7 @@ use Rattle.bench.specs.Rules.{FaultyTableNotOpened, SoundTableOpened, Op
 use Rattle.bench.specs.Rules.{ReleasesByRule, TicksByRule}
 use Rattle.bench.specs.Rules.{Ready, ExactGapPermitted, FirstReleasePermitted}
 use Rattle.bench.specs.Rules.{BooksBalance, NeverBroken, ClockEnds}
-use Rattle.bench.proofs.Record.{whole-of, sound-fits}
+use Rattle.bench.proofs.State.{whole-of, sound-fits}
 use Rattle.bench.proofs.Permitted.{may-release, may-tick, tick-24}
 use Rattle.bench.proofs.Gaps.{gap-over, first-never-soon}
 use Rattle.bench.proofs.Steps.{refused-step, taken-step, refused-same, same-board}

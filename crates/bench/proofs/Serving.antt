@@ -11,8 +11,8 @@ use Rattle.bench.specs.declared.RowState.{RowState}
 use Rattle.bench.specs.declared.Finish.{Finish}
 use Rattle.bench.specs.declared.Finishes.{Finishes}
 use Rattle.bench.specs.declared.Turn.{Turn}
-use Rattle.bench.specs.Record.{idle, work}
-use Rattle.bench.specs.Serving.{unit, units, less, worked, ends, finishOf, finished, turnOf}
+use Rattle.bench.specs.State.{idle, work}
+use Rattle.bench.specs.Serving.{unit, units, afterUnits, worked, ends, finishOf, finished, turnOf}
 use Rattle.quantities.specs.Limits.{rowCapacity}
 use Rattle.bench.specs.Ended.{finishesOf, noted}
 use Rattle.bench.proofs.Ended.{notedAll, noted-all}

@@ -3,7 +3,6 @@ use Prim.Native.Nat.{ℕ}
 use mathlib.Core.Path.{_≡_, refl, ap}
 use mathlib.Core.List.{[]}
 use mathlib.Core.Option.{Option, none, some}
-use native.Mathlib.Omega.{arith}
 use Rattle.laws.specs.Checks.{firstFailing}
 use Rattle.laws.proofs.Tests.{not-one}
 use Rattle.bench.specs.declared.Bench.{Bench}
@@ -13,7 +12,7 @@ use Rattle.bench.specs.Ended.{finishesOf}
 use Rattle.bench.specs.declared.Refusal.{Refusal}
 use Rattle.bench.specs.declared.Outcome.the-variants.{Taken, Refused}
 use Rattle.bench.specs.Refusal.{releaseTests, tickTests}
-use Rattle.bench.specs.Step.{Step, unless, started, release, moved, taken, tick, releasedOf, tickedOf}
+use Rattle.bench.specs.Step.{Step, unlessRefused, started, release, moved, taken, tick, releasedOf, tickedOf}
 use Rattle.bench.specs.History.{Call, releases, ticks, callTests, doCall}
 use Rattle.bench.proofs.Permitted.{MayRelease, may-release, MayTick, may-tick}
 
@@ -37,30 +36,30 @@ pub data CallCase (b : Bench) : Call → Step → Type 0 where
   ticked : firstFailing (callTests b ticks) ≡ none → MayTick b → CallCase b ticks (taken b)
 
 pub call-case : (b : Bench) (call : Call) → CallCase b call (doCall b call)
-unfolding callTests release tick unless
+unfolding callTests release tick unlessRefused
 call-case b (releases place demand) = at (firstFailing (releaseTests b place demand)) refl
   where
     at : (found : Option Refusal) → firstFailing (releaseTests b place demand) ≡ found
-        → CallCase b (releases place demand) (unless found (releasedStep b place demand) b)
+        → CallCase b (releases place demand) (unlessRefused found (releasedStep b place demand) b)
     at none q = released q (may-release b place demand q)
     at (some why) q = refused why q
 call-case b ticks = at (firstFailing (tickTests b)) refl
   where
-    at : (found : Option Refusal) → firstFailing (tickTests b) ≡ found → CallCase b ticks (unless found (taken b) b)
+    at : (found : Option Refusal) → firstFailing (tickTests b) ≡ found → CallCase b ticks (unlessRefused found (taken b) b)
     at none q = ticked q (may-tick b q)
     at (some why) q = refused why q
 
 -- what a call does, where its tests say that it is taken, or refused
 pub refused-step : (b : Bench) (call : Call) (why : Refusal) → firstFailing (callTests b call) ≡ some why
     → doCall b call ≡ refusedStep why b
-unfolding callTests release tick unless
-refused-step b (releases place demand) why e = rw (e, unless)
-refused-step b ticks why e = rw (e, unless)
+unfolding callTests release tick unlessRefused
+refused-step b (releases place demand) why e = rw (e, unlessRefused)
+refused-step b ticks why e = rw (e, unlessRefused)
 
 pub taken-step : (b : Bench) (call : Call) → firstFailing (callTests b call) ≡ none → doCall b call ≡ takenStep b call
-unfolding callTests release tick unless
-taken-step b (releases place demand) e = rw (e, unless)
-taken-step b ticks e = rw (e, unless)
+unfolding callTests release tick unlessRefused
+taken-step b (releases place demand) e = rw (e, unlessRefused)
+taken-step b ticks e = rw (e, unlessRefused)
 
 -- A refused call changes nothing on the bench.
 pub refused-same : (b : Bench) (call : Call) (why : Refusal) → doCall b call .outcome ≡ Refused why

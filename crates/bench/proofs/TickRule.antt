@@ -16,8 +16,8 @@ use Rattle.bench.specs.declared.Last.the-variants.{Never, At}
 use Rattle.bench.specs.declared.RowState.{RowState}
 use Rattle.bench.specs.declared.Bench.{Bench}
 use Rattle.bench.specs.declared.Finish.{Finish}
-use Rattle.bench.specs.Record.{idle, work, rows, stateAt, lastBroken}
-use Rattle.bench.specs.Serving.{unit, units, sum, workers, less, worked, since, finishOf}
+use Rattle.bench.specs.State.{idle, work, rows, stateAt, lastBroken}
+use Rattle.bench.specs.Serving.{unit, units, sum, workers, afterUnits, worked, since, finishOf}
 use Rattle.bench.specs.Step.{served, moved, taken}
 use Rattle.bench.specs.TickRule.{workersAbove, Gets, PollEnds, rowStates, remaining, TickRule}
 use Rattle.bench.proofs.Rows.{less-none}
@@ -74,13 +74,13 @@ no-unit b place low not = go (decLe 1 (getD (served b) (place - 1) 0))
     go (yes h) = absurd (not (has-got b place low h))
     go (no h) =
         let none : getD (served b) (place - 1) 0 ≡ 0 = omega arith in
-        moved-at b place ∙ ap (λ u. less u (stateAt b place)) none ∙ less-none (stateAt b place)
+        moved-at b place ∙ ap (λ u. afterUnits u (stateAt b place)) none ∙ less-none (stateAt b place)
 
 -- What the rows have got in all is what no longer remains.
 spent : (free n : ℕ) (states : List RowState)
     → remaining (take n states)
     ≡ remaining (take n (worked (units free (take n states)) states)) + sum (units free (take n states))
-unfolding units worked less
+unfolding units worked afterUnits
 spent free zero states = refl
 spent free (suc n) [] = refl
 spent free (suc n) (s ∷ states) =
@@ -139,7 +139,7 @@ taken-rule b k room =
       outcome = refl;
       clock = refl;
       board = (refl, refl);
-      one-unit = λ place g. moved-at b place ∙ ap (λ u. less u (stateAt b place)) (gets-one b place g);
+      one-unit = λ place g. moved-at b place ∙ ap (λ u. afterUnits u (stateAt b place)) (gets-one b place g);
       no-unit = no-unit b;
       as-many = length-worked (served b) (b .states);
       how-many = how-many b;

@@ -1,6 +1,6 @@
 -- A tick as the code's loop makes it: what holds before each turn, that a turn keeps it, and what it gives at the end.
 use Prim.Native.Nat.{ℕ, suc, _+_, _-_, _≤_, _<_}
-use native.Mathlib.Nat.{sub-self, sub-zero}
+use native.Mathlib.Nat.{sub-zero}
 use native.Mathlib.Numerals.{add-one}
 use native.Mathlib.Omega.{arith}
 use mathlib.Core.Path.{_≡_, refl, sym, ap, _∙_}
@@ -16,7 +16,7 @@ use Rattle.bench.specs.declared.Finishes.{Finishes}
 use Rattle.bench.specs.declared.Turn.{Turn}
 use Rattle.bench.specs.declared.Ticked.{Ticked}
 use Rattle.bench.specs.declared.Outcome.the-variants.{Taken}
-use Rattle.bench.specs.Record.{idle, rows}
+use Rattle.bench.specs.State.{idle, rows}
 use Rattle.bench.specs.Serving.{units, worked, finished, finishOf, turnOf}
 use Rattle.bench.specs.Ended.{finishesOf, noted}
 use Rattle.bench.specs.Step.{later, served, moved, taken, tickedOf}

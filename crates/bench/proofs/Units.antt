@@ -5,8 +5,8 @@ use mathlib.Core.Path.{_≡_, refl, sym, ap}
 use mathlib.Core.List.{List, [], _∷_}
 use lib.ListN.{length, getD, take}
 use Rattle.bench.specs.declared.RowState.{RowState}
-use Rattle.bench.specs.Record.{idle, work}
-use Rattle.bench.specs.Serving.{unit, units, sum, workers, less, worked}
+use Rattle.bench.specs.State.{idle, work}
+use Rattle.bench.specs.Serving.{unit, units, sum, workers, afterUnits, worked}
 use Rattle.bench.proofs.Rows.{less-none}
 
 -- What is to know of a row's unit u when m cores are free and l is its work.
@@ -57,12 +57,12 @@ unit-le-one free zero (s ∷ states) = unit-facts free (work s) .le-one
 unit-le-one free (suc i) (s ∷ states) = unit-le-one (free - unit free (work s)) i states
 
 -- the state of each row when the rows have got their units
-pub worked-at : (us : List ℕ) (states : List RowState) (i : ℕ) → getD (worked us states) i idle ≡ less (getD us i 0) (getD states i idle)
-unfolding worked less
+pub worked-at : (us : List ℕ) (states : List RowState) (i : ℕ) → getD (worked us states) i idle ≡ afterUnits (getD us i 0) (getD states i idle)
+unfolding worked afterUnits
 worked-at [] states i = sym (less-none (getD states i idle))
 worked-at (u ∷ us) [] i = sym (less-idle (getD (u ∷ us) i 0))
   where
-    less-idle : (n : ℕ) → less n idle ≡ idle
+    less-idle : (n : ℕ) → afterUnits n idle ≡ idle
     less-idle n = let z : 0 - n ≡ 0 = omega arith in rw z
 worked-at (u ∷ us) (s ∷ states) zero = refl
 worked-at (u ∷ us) (s ∷ states) (suc i) = worked-at us states i

@@ -1,5 +1,5 @@
 -- The bench: what it holds, when number 29 is due, how rows are served, its calls, histories and rules.
-pub mod Record
+pub mod State
 pub mod Refusal
 pub mod Serving
 pub mod Ended

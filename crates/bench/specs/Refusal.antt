@@ -16,7 +16,7 @@ use Rattle.bench.specs.declared.Refusal.the-variants.{NoPlace, Unfinishe
 use Rattle.bench.specs.declared.Refusal.the-variants.{ClockEnd, BrokenRecord}
 use Rattle.bench.specs.declared.Outcome.{Outcome}
 use Rattle.bench.specs.declared.Outcome.the-variants.{Taken, Refused}
-use Rattle.bench.specs.Record.{lastInstant, rows, rowAt, stateAt, work, broken}
+use Rattle.bench.specs.State.{lastInstant, rows, rowAt, stateAt, work, broken}
 
 -- whether fewer than `gap` ticks are over since the last release; a first release is never too soon
 unfoldable pub tooSoon : (now gap : ℕ) → Last → Bool

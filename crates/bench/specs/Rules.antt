@@ -21,7 +21,7 @@ use Rattle.bench.specs.declared.Bench.{Bench}
 use Rattle.bench.specs.declared.Refusal.{Refusal}
 use Rattle.bench.specs.declared.Refusal.the-variants.{BrokenRecord}
 use Rattle.bench.specs.declared.Outcome.the-variants.{Taken, Refused}
-use Rattle.bench.specs.Record.{idle, rows, rowAt, stateAt, work, broken}
+use Rattle.bench.specs.State.{idle, rows, rowAt, stateAt, work, broken}
 use Rattle.bench.specs.Refusal.{tooSoon, refusalPaper, outcomePaper}
 use Rattle.bench.specs.Step.{emptyBench, noBench, opened, openingOf, Step, fresh, release, tick}
 use Rattle.bench.specs.History.{Call, releases, ticks, callTests, doCall, after, accepted, servedIn}

@@ -8,7 +8,7 @@ use Rattle.bench.specs.declared.Last.the-variants.{Never, At}
 use Rattle.bench.specs.declared.RowState.{RowState}
 use Rattle.bench.specs.declared.Finish.{Finish}
 use Rattle.bench.specs.declared.Turn.{Turn}
-use Rattle.bench.specs.Record.{work}
+use Rattle.bench.specs.State.{work}
 
 -- how many of the rows have work remaining: the count that document 01 calls "how many"
 unfoldable pub workers : List RowState → ℕ
@@ -30,14 +30,14 @@ sum [] = 0
 sum (u ∷ us) = u + sum us
 
 -- a row's state when it has got this many units
-unfoldable pub less : ℕ → RowState → RowState
-less u state = record { last = state .last; demand = state .demand; left = record { 0 = work state - u } }
+unfoldable pub afterUnits : ℕ → RowState → RowState
+afterUnits u state = record { last = state .last; demand = state .demand; left = record { 0 = work state - u } }
 
 -- the states of rows when they have got these units; states past the units stay
 unfoldable pub worked : List ℕ → List RowState → List RowState
 worked [] states = states
 worked (u ∷ us) [] = []
-worked (u ∷ us) (state ∷ states) = less u state ∷ worked us states
+worked (u ∷ us) (state ∷ states) = afterUnits u state ∷ worked us states
 
 -- whether a row that got this many units has ended its poll: it got one, and nothing remains
 unfoldable pub ends : ℕ → RowState → Bool
@@ -66,4 +66,4 @@ finished instant place (u ∷ us) (state ∷ states) =
 unfoldable pub turnOf : (free : ℕ) → RowState → Turn
 turnOf free state =
     let u = unit free (work state) in
-    record { state = less u state; free = free - u; ends = ends u state }
+    record { state = afterUnits u state; free = free - u; ends = ends u state }

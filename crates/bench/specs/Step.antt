@@ -20,7 +20,7 @@ use Rattle.bench.specs.declared.Finish.{Finish}
 use Rattle.bench.specs.declared.Opening.{Opening}
 use Rattle.bench.specs.declared.Released.{Released}
 use Rattle.bench.specs.declared.Ticked.{Ticked}
-use Rattle.bench.specs.Record.{idle, rows}
+use Rattle.bench.specs.State.{idle, rows}
 use Rattle.bench.specs.Refusal.{releaseTests, tickTests}
 use Rattle.bench.specs.Serving.{units, worked, finished}
 use Rattle.bench.specs.Ended.{finishesOf}
@@ -48,10 +48,10 @@ pub record Step : Type 0 where
   pub finishes : List Finish
   pub bench : Bench
 
--- a call that does `step` unless there is a refusal: then nothing changes
-unfoldable pub unless : Option Refusal → Step → Bench → Step
-unless none step b = step
-unless (some why) step b = record { outcome = Refused why; finishes = []; bench = b }
+-- a call that does `step` unlessRefused there is a refusal: then nothing changes
+unfoldable pub unlessRefused : Option Refusal → Step → Bench → Step
+unlessRefused none step b = step
+unlessRefused (some why) step b = record { outcome = Refused why; finishes = []; bench = b }
 
 -- a poll that starts with this demand at an instant
 abbrev pub fresh : (now demand : ℕ) → RowState
@@ -71,7 +71,7 @@ started b place demand =
 -- Release: a poll of `demand` at `place` starts at the present instant.
 unfoldable pub release : Bench → (place demand : ℕ) → Step
 release b place demand =
-    unless (firstFailing (releaseTests b place demand))
+    unlessRefused (firstFailing (releaseTests b place demand))
     (record { outcome = Taken; finishes = []; bench = started b place demand })
     b
 
@@ -99,7 +99,7 @@ taken b =
 
 -- Tick: rows are served from the top, and the instant grows by one.
 unfoldable pub tick : Bench → Step
-tick b = unless (firstFailing (tickTests b)) (taken b) b
+tick b = unlessRefused (firstFailing (tickTests b)) (taken b) b
 
 -- the answers as the code's functions give them
 unfoldable pub benchOr : Option Bench → Bench

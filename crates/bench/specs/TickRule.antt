@@ -11,8 +11,8 @@ use Rattle.bench.specs.declared.RowState.{RowState}
 use Rattle.bench.specs.declared.Bench.{Bench}
 use Rattle.bench.specs.declared.Finish.{Finish}
 use Rattle.bench.specs.declared.Outcome.the-variants.{Taken}
-use Rattle.bench.specs.Record.{work, rows, stateAt}
-use Rattle.bench.specs.Serving.{sum, workers, less}
+use Rattle.bench.specs.State.{work, rows, stateAt}
+use Rattle.bench.specs.Serving.{sum, workers, afterUnits}
 use Rattle.bench.specs.Step.{Step}
 
 -- how many rows above a place have work remaining
@@ -53,7 +53,7 @@ pub record TickRule (b : Bench) (step : Step) : Type 0 where
   pub outcome : step .outcome ≡ Taken
   pub clock : step .bench .now .0 ≡ suc (b .now .0)
   pub board : (step .bench .cores ≡ b .cores) × (step .bench .table ≡ b .table)
-  pub one-unit : (place : ℕ) → Gets b place → stateAt (step .bench) place ≡ less 1 (stateAt b place)
+  pub one-unit : (place : ℕ) → Gets b place → stateAt (step .bench) place ≡ afterUnits 1 (stateAt b place)
   pub no-unit : (place : ℕ) → 1 ≤ place → (Gets b place → ⊥) → stateAt (step .bench) place ≡ stateAt b place
   pub as-many : length (step .bench .states) ≡ length (b .states)
   pub how-many :

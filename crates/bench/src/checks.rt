@@ -8,7 +8,7 @@ use quantities::Ticks;
 ghost use mathlib.Core.Path.{_≡_};
 ghost use Prim.Native.Nat.{_≤_};
 ghost use Rattle.quantities.specs.Limits.{rowCapacity};
-ghost use Rattle.bench.specs.Record.{rows, lastBroken, rowBroken, rowsBroken};
+ghost use Rattle.bench.specs.State.{rows, lastBroken, rowBroken, rowsBroken};
 ghost use Rattle.bench.specs.Refusal.{tooSoon};
 
 // Whether a last release is after the present instant, or there is work and no release.

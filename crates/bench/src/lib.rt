@@ -11,7 +11,7 @@ ghost use mathlib.Core.List.{[]};
 ghost use Prim.Native.Nat.{_≤_, _<_};
 ghost use Rattle.laws.specs.Checks.{firstFailing};
 ghost use Rattle.quantities.specs.Limits.{rowCapacity};
-ghost use Rattle.bench.specs.Record.{lastInstant, broken};
+ghost use Rattle.bench.specs.State.{lastInstant, broken};
 ghost use Rattle.bench.specs.Refusal.{outcomeOf, releaseTests, tickTests};
 ghost use Rattle.bench.specs.Ended.{finishesOf, noted};
 ghost use Rattle.bench.specs.History.{doCall, callOf};

@@ -12,7 +12,7 @@ use quantities::Ticks;
 ghost use mathlib.Core.Path.{_≡_};
 ghost use Prim.Native.Nat.{_≤_, _<_};
 ghost use Rattle.quantities.specs.Limits.{rowCapacity};
-ghost use Rattle.bench.specs.Record.{lastInstant};
+ghost use Rattle.bench.specs.State.{lastInstant};
 ghost use Rattle.bench.specs.Serving.{since, turnOf};
 ghost use Rattle.bench.specs.Step.{tickedOf, taken};
 

@@ -21,8 +21,8 @@ use Rattle.bench.specs.declared.Last.{Last}
 use Rattle.bench.specs.declared.Last.the-variants.{Never, At}
 use Rattle.bench.specs.declared.RowState.{RowState}
 use Rattle.bench.specs.declared.Bench.{Bench}
-use Rattle.bench.specs.Record.{idle, lastBroken, rowBroken, rowsBroken, isFault, broken}
-use Rattle.bench.proofs.Record.{broken-table}
+use Rattle.bench.specs.State.{idle, lastBroken, rowBroken, rowsBroken, isFault, broken}
+use Rattle.bench.proofs.State.{broken-table}
 use Rattle.rowpages.specs.Lists.{listOrder}
 use Rattle.benchpages.specs.Calls.{RecordBroken, faulty-table, late-instant, released-later}
 use Rattle.benchpages.specs.Calls.{demand-above-cost, more-left-than-demand, work-never-released}

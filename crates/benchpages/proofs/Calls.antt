@@ -20,7 +20,7 @@ use Rattle.bench.specs.declared.Last.the-variants.{Never, At}
 use Rattle.bench.specs.declared.Bench.{Bench}
 use Rattle.bench.specs.declared.Outcome.{Outcome}
 use Rattle.bench.specs.declared.Outcome.the-variants.{Taken, Refused}
-use Rattle.bench.specs.Record.{broken}
+use Rattle.bench.specs.State.{broken}
 use Rattle.bench.specs.Refusal.{tooSoon, refusalPaper, outcomePaper}
 use Rattle.bench.specs.Step.{Step, release}
 use Rattle.bench.specs.History.{Call, releases, ticks, doCall, after}

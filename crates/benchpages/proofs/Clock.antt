@@ -6,10 +6,10 @@ use mathlib.Core.Path.{_≡_, refl}
 use mathlib.Core.Bool.{false}
 use mathlib.Core.List.{List, [], _∷_}
 use Rattle.bench.specs.declared.Bench.{Bench}
-use Rattle.bench.specs.Record.{lastInstant, broken}
+use Rattle.bench.specs.State.{lastInstant, broken}
 use Rattle.bench.specs.Step.{Step, started, release, moved, taken, tick}
 use Rattle.bench.specs.History.{Call, releases, ticks, callTests, after}
-use Rattle.bench.proofs.Record.{whole-unbroken}
+use Rattle.bench.proofs.State.{whole-unbroken}
 use Rattle.bench.proofs.Permitted.{tick-permitted}
 use Rattle.bench.proofs.Steps.{taken-step, CallCase, refused, released, call-case}
 use Rattle.bench.proofs.Kept.{Kept, kept-opened, kept-call, tick-at-end}

@@ -9,7 +9,7 @@ use lib.ListN.{length}
 use Rattle.bench.specs.declared.Bench.{Bench}
 use Rattle.bench.specs.declared.Outcome.{Outcome}
 use Rattle.bench.specs.declared.Outcome.the-variants.{Taken, Refused}
-use Rattle.bench.specs.Record.{rows, work, stateAt}
+use Rattle.bench.specs.State.{rows, work, stateAt}
 use Rattle.bench.specs.Step.{release, tick}
 use Rattle.bench.specs.History.{Call, releases, ticks, doCall, after, steps, isTaken, brought, gave, accepted, servedIn}
 use Rattle.bench.proofs.Kept.{Kept, kept-opened, kept-call}

@@ -13,8 +13,8 @@ use Rattle.bench.specs.declared.Last.{Last}
 use Rattle.bench.specs.declared.Last.the-variants.{At}
 use Rattle.bench.specs.declared.RowState.{RowState}
 use Rattle.bench.specs.declared.Finish.{Finish}
-use Rattle.bench.specs.Record.{idle, work}
-use Rattle.bench.specs.Serving.{workers, less, sum}
+use Rattle.bench.specs.State.{idle, work}
+use Rattle.bench.specs.Serving.{workers, afterUnits, sum}
 use Rattle.bench.specs.Step.{Step, fresh, tick}
 use Rattle.bench.specs.History.{Call, releases, ticks}
 use Rattle.bench.specs.Rules.{callChecks, PermittedCall, ReleaseRule, TicksByRule}
@@ -122,8 +122,8 @@ is-served b place g =
       among-highest = rw (working-down b (place - 1)) (g .among-highest);
     }
 
-one-less : (state after : RowState) → after ≡ less 1 state → 0 < work state → OneUnit state after
-unfolding less
+one-less : (state after : RowState) → after ≡ afterUnits 1 state → 0 < work state → OneUnit state after
+unfolding afterUnits
 one-less state after e some-work =
     record {
       last = ap (λ (s : RowState). s .last) e;
@@ -187,8 +187,8 @@ tick-serves b room passed =
     }
 
 -- The other way round: what ticks as the page says keeps the bench's own rule.
-less-one : (state after : RowState) → OneUnit state after → after ≡ less 1 state
-unfolding less
+less-one : (state after : RowState) → OneUnit state after → after ≡ afterUnits 1 state
+unfolding afterUnits
 less-one state after u =
     let left : after .left .0 ≡ work state - 1 = omega (arith, u .remains) in
     rw (← u .last, ← u .demand, ← left) refl

@@ -1,5 +1,5 @@
 -- Openings, the clock's end and what the functions answer: what specs/Calls.antt says of them holds.
-use Prim.Native.Nat.{ℕ, _-_, _≤_}
+use Prim.Native.Nat.{_-_, _≤_}
 use native.Mathlib.Omega.{arith}
 use mathlib.Core.Path.{_≡_, refl, ap, _∙_}
 use mathlib.Core.List.{List, [], _∷_}
@@ -15,12 +15,12 @@ use Rattle.quantities.specs.Table.{rowsOf, emptyTable}
 use Rattle.quantities.specs.Checks.{check, listFault, listChecks, checkedOf}
 use Rattle.bench.specs.declared.Bench.{Bench}
 use Rattle.bench.specs.declared.Finish.{Finish}
-use Rattle.bench.specs.Record.{broken}
+use Rattle.bench.specs.State.{broken}
 use Rattle.bench.specs.Refusal.{refusalPaper, outcomePaper, outcomeOf}
 use Rattle.bench.specs.Ended.{noFinish, finishesOf}
 use Rattle.bench.specs.Step.{emptyBench, noBench, Step, openingOf, taken, tick, releasedOf, tickedOf}
 use Rattle.bench.specs.History.{Call, releases, ticks, callTests, doCall, after}
-use Rattle.bench.proofs.Record.{whole-unbroken}
+use Rattle.bench.proofs.State.{whole-unbroken}
 use Rattle.bench.proofs.Kept.{opened-empty, kept-opened, kept-after}
 use Rattle.bench.proofs.Steps.{CallCase, refused, released, ticked, call-case}
 use Rattle.bench.proofs.Open.{no-bench-broken}

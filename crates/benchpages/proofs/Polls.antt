@@ -13,7 +13,7 @@ use Rattle.quantities.specs.declared.Table.{Table}
 use Rattle.bench.specs.declared.Last.{Last}
 use Rattle.bench.specs.declared.Last.the-variants.{At}
 use Rattle.bench.specs.declared.Bench.{Bench}
-use Rattle.bench.specs.Record.{stateAt}
+use Rattle.bench.specs.State.{stateAt}
 use Rattle.bench.specs.Step.{Step, opened, release, tick}
 use Rattle.bench.specs.History.{Call, releases, ticks, doCall, after, steps}
 use Rattle.bench.proofs.Kept.{Kept, kept-opened, kept-call, kept-after}

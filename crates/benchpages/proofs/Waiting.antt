@@ -15,12 +15,12 @@ use Rattle.bench.specs.declared.RowState.{RowState}
 use Rattle.bench.specs.declared.Bench.{Bench}
 use Rattle.bench.specs.declared.Finish.{Finish}
 use Rattle.bench.specs.declared.Outcome.the-variants.{Taken}
-use Rattle.bench.specs.Record.{stateAt, work}
-use Rattle.bench.specs.Serving.{less}
+use Rattle.bench.specs.State.{stateAt, work}
+use Rattle.bench.specs.Serving.{afterUnits}
 use Rattle.bench.specs.Step.{Step, started, release, served, moved, taken, tick}
 use Rattle.bench.specs.History.{releases, ticks}
 use Rattle.bench.specs.TickRule.{Gets, PollEnds, TickRule}
-use Rattle.bench.proofs.Record.{sound-fits}
+use Rattle.bench.proofs.State.{sound-fits}
 use Rattle.bench.proofs.Steps.{CallCase, refused, released as poll-started, ticked, call-case}
 use Rattle.bench.proofs.Balance.{started-here, started-elsewhere}
 use Rattle.bench.proofs.TickRule.{gets-one, has-got, taken-rule}
@@ -110,7 +110,7 @@ module _ (place released : ℕ) (first : 1 ≤ place) (b : Bench) (kept : Kept b
 
   -- one that gives it another unit or none leaves it waiting,
   more-to-do : Gets b place → 2 ≤ work (stateAt b place) → WaitsOn place released (taken b)
-  unfolding less
+  unfolding afterUnits
   more-to-do gets two =
       let same = rule .one-unit place gets in
       record {

@@ -27,7 +27,7 @@ use Rattle.bench.specs.declared.Refusal.the-variants.{ClockEnd, BrokenRecord}
 use Rattle.bench.specs.declared.Outcome.the-variants.{Taken, Refused}
 use Rattle.bench.specs.declared.Finish.{Finish}
 use Rattle.bench.specs.declared.Finishes.{Finishes}
-use Rattle.bench.specs.Record.{lastInstant, broken}
+use Rattle.bench.specs.State.{lastInstant, broken}
 use Rattle.bench.specs.Refusal.{refusalPaper, outcomePaper, releaseTests, tickTests, outcomeOf}
 use Rattle.bench.specs.Ended.{finishesOf}
 use Rattle.bench.specs.Step.{Step, opened, openingOf, release, tick, releasedOf, tickedOf}

@@ -1,6 +1,4 @@
 -- Laws of lists of checks: firstFailing tells what the first that fails tells, and nothing exactly where none does.
-use Prim.Native.Nat.{ℕ}
-use native.Mathlib.Omega.{arith}
 use mathlib.Core.Path.{_≡_, refl, ap, subst, _∙_}
 use mathlib.Core.Bool.{Bool, true, false}
 use mathlib.Core.List.{List, [], _∷_, _++_, map}

@@ -41,7 +41,7 @@ use Rattle.bench.specs.declared.Opening.{Opening}
 use Rattle.bench.specs.declared.Released.{Released}
 use Rattle.bench.specs.declared.Ticked.{Ticked}
 use Rattle.bench.specs.Refusal.{outcomePaper, releaseTests, tickTests, outcomeOf}
-use Rattle.bench.specs.Record.{broken}
+use Rattle.bench.specs.State.{broken}
 use Rattle.bench.specs.Ended.{finishesOf}
 use Rattle.bench.specs.Step.{openingOf, release, tick, releasedOf, tickedOf}
 use Rattle.bench.specs.History.{releases, ticks, doCall, callOf}

@@ -23,10 +23,10 @@ use Rattle.bench.specs.declared.RowState.{RowState}
 use Rattle.bench.specs.declared.Bench.{Bench}
 use Rattle.bench.specs.declared.Finish.{Finish}
 use Rattle.bench.specs.declared.Outcome.the-variants.{Taken}
-use Rattle.bench.specs.Record.{lastBroken, rowBroken, rowsBroken, isFault, broken}
+use Rattle.bench.specs.State.{lastBroken, rowBroken, rowsBroken, isFault, broken}
 use Rattle.bench.specs.Refusal.{tooSoon, releaseTests, tickTests}
-use Rattle.bench.specs.Serving.{unit, units, less, worked, ends, since, finishOf, finished}
-use Rattle.bench.specs.Step.{Step, emptyBench, openedAfter, opened, unless, started, release, later}
+use Rattle.bench.specs.Serving.{unit, units, afterUnits, worked, ends, since, finishOf, finished}
+use Rattle.bench.specs.Step.{Step, emptyBench, openedAfter, opened, unlessRefused, started, release, later}
 use Rattle.bench.specs.Step.{served, moved, taken, tick}
 use Rattle.bench.specs.History.{Call, releases, ticks, doCall, after}
 use Rattle.bench.specs.Fakes.{idled, once, invented, inventing}
@@ -66,8 +66,8 @@ b = later start (just-released ∷ replicate 31 neverReleased)
 
 released-one : release (tick start .bench) 1 1 .bench ≡ b
 unfolding rowsOf rowChecks rowsChecks listChecks firstFailing faultFrom listFault lastBroken rowBroken
-    rowsBroken isFault broken tooSoon releaseTests tickTests unit units less worked ends since
-    finishOf finished unless started release served moved taken tick
+    rowsBroken isFault broken tooSoon releaseTests tickTests unit units afterUnits worked ends since
+    finishOf finished unlessRefused started release served moved taken tick
 released-one = refl
 
 -- the next tick gives the row its unit, and lists it with a response of 1
@@ -83,7 +83,7 @@ ticks-rightly : (stateOn (tick b .bench) 1 .left .0 ≡ 0)
     × (tick b .finishes ≡ poll 1 ∷ [])
     × (tick b .bench .now .0 ≡ 2)
 unfolding rowsOf rowChecks rowsChecks listChecks firstFailing faultFrom listFault lastBroken rowBroken
-    rowsBroken isFault broken tickTests unit units less worked ends since finishOf finished unless
+    rowsBroken isFault broken tickTests unit units afterUnits worked ends since finishOf finished unlessRefused
     served moved taken tick
 ticks-rightly = (refl, refl, refl)
 

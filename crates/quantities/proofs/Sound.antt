@@ -11,7 +11,7 @@ use lib.Dec.{eqb, ltb}
 use borrow.Author.Tests.{ltb-false, eqb-false}
 use Rattle.laws.specs.Each.{Each}
 use Rattle.laws.proofs.Tests.{or-false, not-one}
-use Rattle.laws.proofs.Checks.{none-fails, none-found}
+use Rattle.laws.proofs.Checks.{none-fails}
 use Rattle.quantities.specs.Limits.{rowCapacity, coreLimit, largestGap}
 use Rattle.quantities.specs.Row.{cost, deadline, gap}
 use Rattle.laws.specs.Checks.{Check, firstFailing}

@@ -13,11 +13,11 @@ use Rattle.bench.specs.declared.Bench.{Bench}
 use Rattle.bench.specs.declared.Finish.{Finish}
 use Rattle.bench.specs.declared.Request.{Request}
 use Rattle.bench.specs.declared.Ticked.{Ticked}
-use Rattle.bench.specs.Record.{rows}
+use Rattle.bench.specs.State.{rows}
 use Rattle.bench.specs.Ended.{noFinish, finishesOf}
 use Rattle.bench.specs.Step.{Step, served, taken, tickedOf}
 use Rattle.bench.specs.History.{Call, doCall, callOf}
-use Rattle.bench.proofs.Record.{whole-of, sound-fits}
+use Rattle.bench.proofs.State.{whole-of, sound-fits}
 use Rattle.bench.proofs.Serving.{finished-few, length-units}
 use Rattle.bench.proofs.Steps.{CallCase, refused, released, ticked, call-case}
 use Rattle.replay.specs.declared.Read.the-variants.{Nothing as NoCall, Call as OneCall}

@@ -8,8 +8,8 @@ use Rattle.laws.specs.Each.{Each}
 use lib.ListN.{length}
 use Rattle.windows.specs.Choice.{Bounded, InRange, carriers}
 use Rattle.bench.specs.declared.RowState.{RowState}
-use Rattle.bench.specs.Record.{work}
-use Rattle.bench.specs.Serving.{unit, less, sum}
+use Rattle.bench.specs.State.{work}
+use Rattle.bench.specs.Serving.{unit, afterUnits, sum}
 use Rattle.bench.proofs.Units.{unit-facts}
 use Rattle.running.proofs.State.{came, spare, servedUp}
 use Rattle.running.proofs.Invariant.{Keeps, Phase, quiet, carried, Above, no-rows, more}
@@ -64,7 +64,7 @@ anew-row : {now : ℕ} (M : ℕ) {b : Bounded} {st : RowState} {above : List Bou
     → Keeps now b st → (0 < work st → now < came st + b .bound) → 0 < spare M (st ∷ up)
     → Anew M now above up
     → (left : ℕ) → work st - unit (spare M up) (work st) ≡ left → Anew M now (b ∷ above) (st ∷ up)
-unfolding less
+unfolding afterUnits
 anew-row M {st} {up} kept in-time free rest zero over =
     let got = unit-facts (spare M up) (work st) in
     record {
@@ -77,7 +77,7 @@ anew-row M {st} {up} kept in-time free rest zero over =
 anew-row {now} M {b} {st} {up} kept in-time free rest (suc left) some =
     let got = unit-facts (spare M up) (work st) in
     let early = in-time (omega arith) in
-    let carries : Phase (suc now) (suc now) b (less (unit (spare M up) (work st)) st) 0 true =
+    let carries : Phase (suc now) (suc now) b (afterUnits (unit (spare M up) (work st)) st) 0 true =
     carried (kept .known (omega arith)) (omega arith) (omega arith) (omega arith) (omega arith) in
     record {
       fs = true ∷ rest .fs;

@@ -7,7 +7,7 @@ use Rattle.laws.specs.Each.{Each}
 use Rattle.quantities.specs.declared.Row.{Row}
 use Rattle.quantities.specs.Row.{noRow}
 use Rattle.bench.specs.declared.Bench.{Bench}
-use Rattle.bench.specs.Record.{rows, stateAt}
+use Rattle.bench.specs.State.{rows, stateAt}
 use Rattle.bench.specs.Step.{Step, started, served, moved, taken}
 use Rattle.bench.specs.History.{Call, doCall, after, steps}
 use Rattle.bench.proofs.Steps.{CallCase, refused, released, ticked, call-case}

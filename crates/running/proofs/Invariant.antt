@@ -7,7 +7,7 @@ use Rattle.quantities.specs.declared.Row.{Row}
 use Rattle.quantities.specs.Row.{cost, gap}
 use Rattle.windows.specs.Choice.{Bounded, bounded, InRange, Passes, carriers}
 use Rattle.bench.specs.declared.RowState.{RowState}
-use Rattle.bench.specs.Record.{work}
+use Rattle.bench.specs.State.{work}
 use Rattle.bench.specs.Serving.{sum}
 use Rattle.running.proofs.State.{ever, came}
 

@@ -9,8 +9,8 @@ use Rattle.windows.specs.Window.{plain, carry}
 use Rattle.windows.specs.Choice.{Bounded, InRange}
 use Rattle.windows.proofs.Window.{plain-runs, carry-runs, cost-le-carry}
 use Rattle.bench.specs.declared.RowState.{RowState}
-use Rattle.bench.specs.Record.{work}
-use Rattle.bench.specs.Serving.{less}
+use Rattle.bench.specs.State.{work}
+use Rattle.bench.specs.Serving.{afterUnits}
 use Rattle.bench.specs.Step.{fresh}
 use Rattle.running.proofs.State.{ever, came}
 use Rattle.running.proofs.Invariant.{Phase, quiet, ran, carried, carried-ran}
@@ -23,8 +23,8 @@ served-in-time (suc u) left now end le fact = inr (fact (omega arith))
 -- a tick in which the row gets u units
 pub phase-tick : {now start w u : ℕ} {b : Bounded} {st : RowState} {f : Bool} → u ≤ 1 → u ≤ work st
     → (0 < work st → now < came st + b .bound) → Phase now start b st w f
-    → Phase (suc now) start b (less u st) (w + u) f
-unfolding less
+    → Phase (suc now) start b (afterUnits u st) (w + u) f
+unfolding afterUnits
 phase-tick one some fact (quiet p q) = quiet (omega arith) (omega arith)
 phase-tick one some fact (ran j e past since total last) =
     ran j e (omega arith) since (omega arith) (omega arith)

@@ -16,7 +16,7 @@ use Rattle.bench.specs.declared.Last.{Last}
 use Rattle.bench.specs.declared.Last.the-variants.{Never, At}
 use Rattle.bench.specs.declared.RowState.{RowState}
 use Rattle.bench.specs.declared.Finish.{Finish}
-use Rattle.bench.specs.Record.{work, idle}
+use Rattle.bench.specs.State.{work, idle}
 use Rattle.bench.specs.Serving.{unit, units, ends, since, finishOf, finished}
 use Rattle.bench.proofs.Units.{unit-facts}
 use Rattle.running.proofs.State.{instantOf, ever, came}

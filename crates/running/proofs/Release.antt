@@ -9,7 +9,7 @@ use Rattle.quantities.specs.declared.Row.{Row}
 use Rattle.quantities.specs.Row.{cost, gap, noRow}
 use Rattle.windows.specs.Choice.{Bounded, bounded}
 use Rattle.bench.specs.declared.RowState.{RowState}
-use Rattle.bench.specs.Record.{work, idle}
+use Rattle.bench.specs.State.{work, idle}
 use Rattle.bench.specs.Step.{fresh}
 use Rattle.running.proofs.State.{ever, came}
 use Rattle.running.proofs.Invariant.{Keeps, Above, more, Mine, resting, working}

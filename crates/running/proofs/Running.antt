@@ -21,7 +21,7 @@ use Rattle.bench.specs.declared.Last.the-variants.{Never, At}
 use Rattle.bench.specs.declared.Bench.{Bench}
 use Rattle.bench.specs.declared.Refusal.{Refusal}
 use Rattle.bench.specs.declared.Refusal.the-variants.{Unfinished}
-use Rattle.bench.specs.Record.{rows, rowAt, stateAt}
+use Rattle.bench.specs.State.{rows, rowAt, stateAt}
 use Rattle.bench.specs.Refusal.{refusalPaper, outcomePaper}
 use Rattle.bench.specs.Serving.{units, finished}
 use Rattle.bench.specs.Step.{Step, served, taken, emptyBench}

@@ -14,7 +14,7 @@ use Rattle.windows.specs.Answer.{judged, verdict}
 use Rattle.windows.specs.Bound.{IsBound}
 use Rattle.windows.proofs.Judgement.{Walk, over, stop, on, walk, judged-sound}
 use Rattle.bench.specs.declared.RowState.{RowState}
-use Rattle.bench.specs.Record.{idle}
+use Rattle.bench.specs.State.{idle}
 use Rattle.bench.specs.Serving.{sum}
 use Rattle.running.proofs.Invariant.{Keeps, quiet, Above, more, resting}
 use Rattle.running.proofs.Invariant.{Stretch, Window, Shown, Inv, done, next}

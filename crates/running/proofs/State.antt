@@ -5,8 +5,8 @@ use mathlib.Core.List.{List, [], _∷_}
 use Rattle.bench.specs.declared.Last.{Last}
 use Rattle.bench.specs.declared.Last.the-variants.{Never, At}
 use Rattle.bench.specs.declared.RowState.{RowState}
-use Rattle.bench.specs.Record.{work}
-use Rattle.bench.specs.Serving.{unit, less}
+use Rattle.bench.specs.State.{work}
+use Rattle.bench.specs.Serving.{unit, afterUnits}
 
 -- whether there was a release, and its instant
 abbrev pub isAt : Last → Bool
@@ -31,7 +31,7 @@ spare M (st ∷ up) = spare M up - unit (spare M up) (work st)
 
 -- the state of the row below these after the tick
 abbrev pub servedBelow : (M : ℕ) → List RowState → RowState → RowState
-servedBelow M up st = less (unit (spare M up) (work st)) st
+servedBelow M up st = afterUnits (unit (spare M up) (work st)) st
 
 -- the states of these rows after it
 abbrev pub servedUp : (M : ℕ) → List RowState → List RowState

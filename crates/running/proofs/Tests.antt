@@ -17,7 +17,7 @@ use Rattle.bench.specs.declared.Bench.{Bench}
 use Rattle.bench.specs.declared.Refusal.{Refusal}
 use Rattle.bench.specs.declared.Refusal.the-variants.{NoPlace, Unfinished, TooSoon, WrongDemand}
 use Rattle.bench.specs.declared.Refusal.the-variants.{ClockEnd, BrokenRecord}
-use Rattle.bench.specs.Record.{rows, rowAt, stateAt, work, broken, lastInstant}
+use Rattle.bench.specs.State.{rows, rowAt, stateAt, work, broken, lastInstant}
 use Rattle.bench.specs.Refusal.{tooSoon, releaseTests, tickTests, refusalPaper}
 use Rattle.bench.proofs.Gaps.{gap-kept}
 use Rattle.bench.proofs.Permitted.{MayRelease}

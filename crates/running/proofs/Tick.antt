@@ -8,8 +8,8 @@ use Rattle.quantities.specs.declared.Row.{Row}
 use Rattle.quantities.specs.Row.{cost}
 use Rattle.windows.specs.Choice.{Bounded}
 use Rattle.bench.specs.declared.RowState.{RowState}
-use Rattle.bench.specs.Record.{work}
-use Rattle.bench.specs.Serving.{unit, units, less, worked}
+use Rattle.bench.specs.State.{work}
+use Rattle.bench.specs.Serving.{unit, units, afterUnits, worked}
 use Rattle.bench.proofs.Units.{unit-facts}
 use Rattle.running.proofs.State.{came, spare, servedBelow, servedUp}
 use Rattle.running.proofs.Invariant.{Keeps, Facts, fact, Mine, resting, working}
@@ -18,12 +18,12 @@ use Rattle.running.proofs.Stretch.{stretch-full, stretch-own, stretch-a
 
 -- a row's state after u units
 pub keeps-tick : {now : ℕ} (u : ℕ) {b : Bounded} {st : RowState} → Keeps now b st
-    → Keeps (suc now) b (less u st)
-unfolding less
+    → Keeps (suc now) b (afterUnits u st)
+unfolding afterUnits
 keeps-tick u kept =
     record { fits = omega arith; past = omega arith; known = λ left. kept .known (omega arith) }
 
--- a row with work left came less than its bound ago
+-- a row with work left came afterUnits than its bound ago
 pub in-time : {M now : ℕ} {b : Bounded} {st : RowState} {above : List Bounded} {up : List RowState}
     → Shown M above b → Window M now b st above up → 0 < work st → now < came st + b .bound
 in-time {now} {b} {st} shown window some = go (window .mine)
@@ -37,8 +37,8 @@ in-time {now} {b} {st} shown window some = go (window .mine)
 
 -- the row's own part through a full tick, which leaves nothing to the row
 mine-full : {start own : ℕ} (free : ℕ) {b : Bounded} (st : RowState) → free ≡ 0 → Mine start b st own
-    → Mine start b (less (unit free (work st)) st) own
-unfolding less
+    → Mine start b (afterUnits (unit free (work st)) st) own
+unfolding afterUnits
 mine-full free st none-free (resting over unserved) = resting (omega arith) unserved
 mine-full free st none-free (working left since part) =
     let got = unit-facts free (work st) in
@@ -47,8 +47,8 @@ mine-full free st none-free (working left since part) =
 -- and through a tick that served the row and left it work
 mine-own : {start own : ℕ} (free : ℕ) {b : Bounded} (st : RowState) → 0 < free
     → 0 < work st - unit free (work st) → Mine start b st own
-    → Mine start b (less (unit free (work st)) st) (suc own)
-unfolding less
+    → Mine start b (afterUnits (unit free (work st)) st) (suc own)
+unfolding afterUnits
 mine-own free st some-free left (resting over unserved) = absurd (omega arith)
 mine-own free st some-free left (working some since part) =
     let got = unit-facts free (work st) in
@@ -58,7 +58,7 @@ mine-own free st some-free left (working some since part) =
 window-anew : {M now : ℕ} {b : Bounded} (st : RowState) {above : List Bounded} {up : List RowState}
     → Facts now above up → 0 < spare M up → work st - unit (spare M up) (work st) ≡ 0
     → Window M (suc now) b (servedBelow M up st) above (servedUp M up)
-unfolding less
+unfolding afterUnits
 window-anew {now} st facts free over =
     record { start = suc now; own = 0; mine = resting over refl; stretch = stretch-anew facts free }
 

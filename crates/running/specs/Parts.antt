@@ -18,11 +18,11 @@ use Rattle.windows.specs.Least.{least}
 use Rattle.windows.specs.Bound.{boundsBelow}
 use Rattle.bench.specs.declared.Bench.{Bench}
 use Rattle.bench.specs.declared.Outcome.the-variants.{Taken}
-use Rattle.bench.specs.Record.{rows}
+use Rattle.bench.specs.State.{rows}
 use Rattle.bench.specs.Refusal.{releaseTests}
 use Rattle.bench.specs.Serving.{workers}
 use Rattle.bench.specs.Fakes.{idled, once, inventing}
-use Rattle.bench.specs.Step.{Step, opened, unless, started, release, tick}
+use Rattle.bench.specs.Step.{Step, opened, unlessRefused, started, release, tick}
 use Rattle.bench.specs.History.{Call, releases, ticks, doCall, after}
 use Rattle.running.specs.Running.{boundAt, OverInTime, EndsInTime, NotUnfinished}
 
@@ -108,7 +108,7 @@ idling b =
 -- a board that counts each gap one tick short: its tests stand at the next instant
 unfoldable pub early : Bench → Call → Step
 early b (releases place demand) =
-    unless (firstFailing (releaseTests (later b) place demand))
+    unlessRefused (firstFailing (releaseTests (later b) place demand))
     (record { outcome = Taken; finishes = []; bench = started b place demand })
     b
 early b ticks = tick b

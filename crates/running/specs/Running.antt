@@ -13,7 +13,7 @@ use Rattle.bench.specs.declared.Last.{Last}
 use Rattle.bench.specs.declared.Last.the-variants.{Never, At}
 use Rattle.bench.specs.declared.Bench.{Bench}
 use Rattle.bench.specs.declared.Finish.{Finish}
-use Rattle.bench.specs.Record.{stateAt, work}
+use Rattle.bench.specs.State.{stateAt, work}
 use Rattle.bench.specs.Refusal.{outcomePaper}
 use Rattle.bench.specs.Step.{Step, opened, release}
 use Rattle.bench.specs.History.{Call, after, steps}

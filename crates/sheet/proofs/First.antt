@@ -9,7 +9,7 @@ use mathlib.Core.List.{List, [], _++_, append-nil}
 use lib.ListN.{length, take, drop, length-append, length-drop, length-take, take-append-drop}
 use lib.Seq.{drop-append-le}
 use Rattle.records.specs.Records.{recordOn, sizeOn, isEnd}
-use Rattle.records.proofs.Records.{found, size-nothing}
+use Rattle.records.proofs.Records.{found}
 use Rattle.records.proofs.Parts.{size-front, on-front}
 use Rattle.records.specs.declared.Record.{Record}
 use Rattle.sheet.specs.Checks.{ownChecks, verdictOf}

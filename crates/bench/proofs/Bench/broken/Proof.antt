@@ -2,7 +2,7 @@
 use mathlib.Core.Path.{_≡_, sym, _∙_}
 use borrow.Author.Needs.{needs}
 use Rattle.quantities.proofs.Checks.{checked-sound, checked-faulty}
-use Rattle.bench.proofs.Record.{sound-fits, broken-table, broken-clock, broken-rows}
+use Rattle.bench.proofs.State.{sound-fits, broken-table, broken-clock, broken-rows}
 use Rattle.bench.proofs.Bench.broken.Statement.{statement}
 use Rattle.bench.proofs.Bench.broken.Tie as tie
 

@@ -6,9 +6,9 @@ use mathlib.Core.Bool.{false}
 use borrow.Author.Needs.{needs}
 use borrow.Author.Tests.{ltb-true, ltb-false}
 use Rattle.quantities.specs.Limits.{rowCapacity}
-use Rattle.bench.specs.Record.{broken}
+use Rattle.bench.specs.State.{broken}
 use Rattle.bench.specs.Refusal.{outcomeOf}
-use Rattle.bench.proofs.Record.{Whole, whole-of, sound-fits}
+use Rattle.bench.proofs.State.{Whole, whole-of, sound-fits}
 use Rattle.bench.proofs.Permitted.{
   release-29,
   release-20-zero,

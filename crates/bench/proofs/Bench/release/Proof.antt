@@ -5,8 +5,8 @@ use mathlib.Core.Path.{_≡_, sym, ap, _∙_}
 use borrow.Author.Needs.{needs}
 use Rattle.quantities.specs.Limits.{rowCapacity}
 use Rattle.quantities.proofs.Rows.{length-rows}
-use Rattle.bench.specs.Step.{releasedOf, release, unless}
-use Rattle.bench.proofs.Record.{Whole, whole-of, sound-fits}
+use Rattle.bench.specs.Step.{releasedOf, release, unlessRefused}
+use Rattle.bench.proofs.State.{Whole, whole-of, sound-fits}
 use Rattle.bench.proofs.Permitted.{MayRelease, may-release, outcome-taken, outcome-refused}
 use Rattle.bench.proofs.Bench.release.Statement.{statement}
 use Rattle.bench.proofs.Bench.release.Tie as tie
@@ -18,7 +18,7 @@ enum-known-outcome : tie.Need-enum-known-outcome
 enum-known-outcome c = search needs
 
 returns : tie.Need-returns
-unfolding releasedOf release unless
+unfolding releasedOf release unlessRefused
 returns c =
     let o = c .before in
     let j = o .before .before in
@@ -37,7 +37,7 @@ start-requires c κs =
     (m .low, omega (arith, m .high, length-rows (b .table), sound-fits (b .cores) (b .table) (whole-of b (m .whole) .sound)))
 
 returns-2 : tie.Need-returns-2
-unfolding releasedOf release unless
+unfolding releasedOf release unlessRefused
 returns-2 c =
     let t = c .before in
     let j = t .before .before in

@@ -2,8 +2,8 @@
 use native.Mathlib.Omega.{arith}
 use mathlib.Core.Path.{_≡_, sym, ap, _∙_}
 use borrow.Author.Needs.{needs}
-use Rattle.bench.specs.Step.{tickedOf, tick, unless}
-use Rattle.bench.proofs.Record.{Whole, whole-of, sound-fits}
+use Rattle.bench.specs.Step.{tickedOf, tick, unlessRefused}
+use Rattle.bench.proofs.State.{Whole, whole-of, sound-fits}
 use Rattle.bench.proofs.Permitted.{MayTick, may-tick, outcome-taken, outcome-refused}
 use Rattle.bench.proofs.Bench.tick.Statement.{statement}
 use Rattle.bench.proofs.Bench.tick.Tie as tie
@@ -18,7 +18,7 @@ none-requires : tie.Need-none-requires
 none-requires c κs = search needs
 
 returns : tie.Need-returns
-unfolding tickedOf tick unless
+unfolding tickedOf tick unlessRefused
 returns c =
     let o = c .before .before in
     let j = o .before .before in
@@ -36,7 +36,7 @@ serve-requires c κs =
     (sound-fits (b .cores) (b .table) (w .sound), omega (arith, w .in-time, m .clock))
 
 returns-2 : tie.Need-returns-2
-unfolding tick unless
+unfolding tick unlessRefused
 returns-2 c =
     let t = c .before in
     let j = t .before .before in

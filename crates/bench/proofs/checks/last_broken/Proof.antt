@@ -1,6 +1,6 @@
 -- last_broken answers by cases of the last release.
 use borrow.Author.Needs.{needs}
-use Rattle.bench.specs.Record.{lastBroken}
+use Rattle.bench.specs.State.{lastBroken}
 use Rattle.bench.proofs.checks.last_broken.Statement.{statement}
 use Rattle.bench.proofs.checks.last_broken.Tie as tie
 

@@ -1,7 +1,7 @@
 -- row_broken tests a row's last release, its demand and its remainder.
 use mathlib.Core.Path.{sym, _∙_}
 use borrow.Author.Needs.{needs}
-use Rattle.bench.specs.Record.{rowBroken}
+use Rattle.bench.specs.State.{rowBroken}
 use Rattle.bench.proofs.checks.row_broken.Statement.{statement}
 use Rattle.bench.proofs.checks.row_broken.Tie as tie
 

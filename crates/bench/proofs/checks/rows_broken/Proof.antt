@@ -4,8 +4,8 @@ use mathlib.Core.Path.{_≡_, refl, sym, _∙_}
 use native.Mathlib.Omega.{arith}
 use borrow.Author.Needs.{needs}
 use lib.ListN.{length, drop, length-map}
-use Rattle.bench.specs.Record.{rows, rowsBroken}
-use Rattle.bench.proofs.Record.{rows-broken-here, rows-broken-below, rows-broken-end}
+use Rattle.bench.specs.State.{rows, rowsBroken}
+use Rattle.bench.proofs.State.{rows-broken-here, rows-broken-below, rows-broken-end}
 use Rattle.bench.proofs.checks.rows_broken.Statement.{statement}
 use Rattle.bench.proofs.checks.rows_broken.Tie as tie
 

@@ -22,7 +22,7 @@ use Rattle.quantities.proofs.Rows.{length-rows, rows-from, rows-end}
 use Rattle.quantities.proofs.Checks.{list-fault-many-rows}
 use Rattle.bench.specs.declared.RowState.{RowState}
 use Rattle.bench.specs.declared.Bench.{Bench}
-use Rattle.bench.specs.Record.{lastInstant, idle, rows, rowBroken, rowsBroken, isFault, broken}
+use Rattle.bench.specs.State.{lastInstant, idle, rows, rowBroken, rowsBroken, isFault, broken}
 
 -- One turn at the row with index i: its state breaks the record, or the rows below decide.
 module _ (now : ℕ) (table : Table) (states : List RowState) (i : ℕ) (h : i < table .count) (l : i < length states) where
