@@ -223,7 +223,7 @@ whole-way sheet n w =
     record {
       found = s;
       reads = reads;
-      prints = rw (← reads .cores, ← reads .tick, text, rows) (text-of-sheet s rows);
+      prints = rw (text, rows) (rw (reads .cores, reads .tick) at (text-of-sheet s rows));
     }
 
 pub goes-the-whole-way : GoesTheWholeWay textOf
