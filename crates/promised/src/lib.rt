@@ -19,6 +19,7 @@ use records::RowFields;
 use replay::Replayed;
 use sheet::FirstSheet;
 use sheet::Outcome;
+ghost use lib.Dec.{ltb};
 ghost use mathlib.Core.Path.{_≡_};
 ghost use Rattle.exports.specs.Exported.{rowsFrom};
 ghost use Rattle.promised.specs.Promised.{SheetAnswer, FirstSheetAnswer, TextAnswer};
@@ -29,6 +30,7 @@ ghost use Rattle.promised.specs.Promised.{ReplayAnswer, AnswerForC, Told
 ghost use Rattle.promised.specs.Promised.{RecordAnswer, sizeIs, EndAnswer, RowsOfEntries, RowAnswer};
 ghost use Rattle.promised.specs.Promised.{NoEntries, UsedAnswer, EntryAnswer};
 ghost use Rattle.rowpages.specs.Windows.{interferes};
+ghost use Rattle.sheetpages.specs.Sheets.{blankEntry};
 ghost use Rattle.benchpages.specs.Calls.{releaseOrder, tickOrder};
 
 pub fn read_sheet(sheet: &[u8]) -> Outcome
@@ -90,6 +92,18 @@ pub fn analyse_for_c(cores: u32, rows: &[[u64; 3]], bounds: &mut [u64]) -> u64
         (now (bounds .entry)) (now (bounds .exit)) r ⌝ }
 {
     exports::dipperslate_analyse(cores, rows, bounds)
+}
+
+pub fn costs_less(row: Row, than: Ticks) -> bool
+    ensures { λ r. ⌜ r ≡ ltb (row .c .0) (than .0) ⌝ }
+{
+    row.costs_less(than)
+}
+
+pub fn blank_fields() -> RowFields
+    ensures { λ r. ⌜ r ≡ blankEntry ⌝ }
+{
+    RowFields::blank()
 }
 
 pub fn no_rows() -> Table
