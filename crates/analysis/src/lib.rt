@@ -1,4 +1,6 @@
 //! The engine: the bounds of a table's rows from the top, and the answer.
+#![tactic(auto)]
+
 ghost use Rattle.std.specs.Prelude.{◌≡◌, ◌+◌, ◌*◌, ◌/◌, ◌≤◌, ◌<◌, min, max, []};
 ghost use Rattle.quantities.specs.Limits.{row_capacity, largest_gap};
 ghost use Rattle.quantities.specs.Table.{rows_of};
@@ -19,7 +21,7 @@ use windows::Answer;
 const LARGEST_WINDOW: u64 = 64_000_000;
 
 // The answer to a table, with the bound of each row in the entry of its index; 0 stands where there is no bound.
-#[derive(Drop)]
+#[derive(Clone, Copy)]
 pub struct Analysis {
     pub answer: Answer,
     pub bounds: [Ticks; Table::ROW_CAPACITY],
@@ -27,7 +29,7 @@ pub struct Analysis {
 
 // What one row above takes from the row judged, without and with carry-in, and how far the window can grow with the
 // row taking every tick of it.
-#[derive(Drop)]
+#[derive(Clone, Copy)]
 struct Load {
     without: Ticks,
     carrying: Ticks,
@@ -35,21 +37,21 @@ struct Load {
 }
 
 // What the rows above take from the row judged, and the ticks that they have room for on every core.
-#[derive(Drop)]
+#[derive(Clone, Copy)]
 struct Taken {
     most: Ticks,
     stride: Ticks,
 }
 
 // How many of the rows above have room, and the least room of these.
-#[derive(Drop)]
+#[derive(Clone, Copy)]
 struct Rooms {
     count: usize,
     least: Ticks,
 }
 
 // The least window that passes, if there is one.
-#[derive(Drop)]
+#[derive(Clone, Copy)]
 enum Found {
     At(Ticks),
     Nothing,

@@ -1,6 +1,8 @@
 // Reads many sheets from standard input and writes the answer to each, for a comparison with another program.
 // Each is a frame: a two-byte length, most significant byte first, and that many bytes. It ends with the
 // input.
+#![tactic(auto)]
+
 ghost use Rattle.std.specs.Prelude.{◌+◌, ◌*◌, ◌≡◌};
 ghost use Rattle.io.specs.Counts.{IsPrefixLen};
 

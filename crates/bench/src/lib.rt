@@ -1,4 +1,6 @@
 //! The bench of document 01: a board run tick by tick. Its types and its steps by value.
+#![tactic(auto)]
+
 ghost use Rattle.std.specs.Prelude.{◌≡◌, [], ◌≤◌, ◌<◌};
 ghost use Rattle.laws.specs.Checks.{first_failing};
 ghost use Rattle.quantities.specs.Limits.{row_capacity};
@@ -16,14 +18,14 @@ mod checks;
 mod tick;
 
 // When a row was last released.
-#[derive(Drop)]
+#[derive(Clone, Copy)]
 pub enum Last {
     Never,
     At(Instant),
 }
 
 // What the bench holds of a row: its last release, the demand released then, and what remains of it.
-#[derive(Drop)]
+#[derive(Clone, Copy)]
 pub struct RowState {
     pub last: Last,
     pub demand: Ticks,
@@ -31,7 +33,7 @@ pub struct RowState {
 }
 
 // A board being run: its cores and table, the present instant, and a state for each row of the table.
-#[derive(Drop)]
+#[derive(Clone, Copy)]
 pub struct Bench {
     pub cores: u32,
     pub table: Table,
@@ -40,14 +42,14 @@ pub struct Bench {
 }
 
 // A call on the bench.
-#[derive(Drop)]
+#[derive(Clone, Copy)]
 pub enum Request {
     Release(usize, Ticks),
     Tick,
 }
 
 // Why a call is turned away, at the place given: numbers 20 to 24 and 29 of document 01.
-#[derive(Drop)]
+#[derive(Clone, Copy)]
 pub enum Refusal {
     NoPlace(usize),
     Unfinished(usize),
@@ -58,42 +60,42 @@ pub enum Refusal {
 }
 
 // A call is taken, or refused for a reason.
-#[derive(Drop)]
+#[derive(Clone, Copy)]
 pub enum Outcome {
     Taken,
     Refused(Refusal),
 }
 
 // A poll that ended: the place of its row, and the ticks from its release to its end.
-#[derive(Drop)]
+#[derive(Clone, Copy)]
 pub struct Finish {
     pub place: usize,
     pub response: Ticks,
 }
 
 // The polls that ended in a tick, in rising place; entries from `count` on are blank.
-#[derive(Drop)]
+#[derive(Clone, Copy)]
 pub struct Finishes {
     pub count: usize,
     pub list: [Finish; Table::ROW_CAPACITY],
 }
 
 // The answer to an opening: what checks 1 to 6 found and, where they found nothing, the bench at instant 0.
-#[derive(Drop)]
+#[derive(Clone, Copy)]
 pub struct Opening {
     pub found: Checked,
     pub bench: Bench,
 }
 
 // The answer to a release, and the bench after it.
-#[derive(Drop)]
+#[derive(Clone, Copy)]
 pub struct Released {
     pub outcome: Outcome,
     pub bench: Bench,
 }
 
 // The answer to a tick, and the bench after it.
-#[derive(Drop)]
+#[derive(Clone, Copy)]
 pub struct Ticked {
     pub outcome: Outcome,
     pub finishes: Finishes,
@@ -101,7 +103,7 @@ pub struct Ticked {
 }
 
 // One row's part in a tick: its state after it, the cores still free, and whether its poll ended.
-#[derive(Drop)]
+#[derive(Clone, Copy)]
 struct Turn {
     state: RowState,
     free: u32,

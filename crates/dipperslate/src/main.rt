@@ -1,4 +1,6 @@
 // Reads one sheet from standard input and prints its answer: document 01, "One sheet through the program".
+#![tactic(auto)]
+
 ghost use Rattle.std.specs.Prelude.{◌≡◌, ◌≤◌, length, take};
 ghost use Rattle.io.specs.Counts.{IsPrefixLen};
 ghost use Rattle.text.specs.Text.{text_of};
@@ -8,7 +10,7 @@ ghost use Rattle.dipperslate.specs.Reading.{input_room, Within};
 use libc::{STDIN_FILENO, STDOUT_FILENO};
 
 // What was read: this many bytes, or nothing, since a read failed.
-#[derive(Drop)]
+#[derive(Clone, Copy)]
 enum Input {
     Bytes(usize),
     Failed,

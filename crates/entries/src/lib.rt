@@ -1,4 +1,6 @@
 //! The rows of a sheet, each at its place by priority, and their table: microseconds become ticks of a length.
+#![tactic(auto)]
+
 ghost use Rattle.std.specs.Prelude.{◌≡◌};
 ghost use Rattle.entries.specs.Entries.{ticks_of, row_in, board_sheet};
 ghost use Rattle.entries.specs.Entries.{entries_of, used, with_entry, table_in, table_of};
@@ -8,7 +10,7 @@ use records::RowFields;
 
 // A board and its rows in rising priority, as their records say them: the first `count` entries; the capacity is the
 // table's own.
-#[derive(Drop)]
+#[derive(Clone, Copy)]
 pub struct Sheet {
     pub cores: u32,
     pub tick: Micros,

@@ -1,4 +1,6 @@
 //! The analysis for callers in C: rows as triples of numbers, bounds into a lent list, the answer as one number.
+#![tactic(auto)]
+
 ghost use Rattle.std.specs.Prelude.{◌≡◌, ◌≤◌, ◌<◌, length};
 ghost use Rattle.windows.specs.Answer.{judged_into, answer_paper};
 ghost use Rattle.quantities.specs.Limits.{row_capacity};

@@ -1,6 +1,8 @@
 // Reads many histories from standard input, runs each on a bench and writes how it went, for a comparison with another
 // program. A frame is a two-byte length, most significant byte first, and that many bytes: cores (1), number of rows
 // (1), C, D and T of each row in ticks (4 each), then the calls as docs/REPLAY.md says. It ends with the input.
+#![tactic(auto)]
+
 ghost use Rattle.io.specs.Counts.{IsPrefixLen};
 
 use libc::{STDIN_FILENO, STDOUT_FILENO};
@@ -11,14 +13,14 @@ use replay::Replayed;
 const MOST_ANSWERS: usize = 65534;
 
 // What was read of a row: it is cut where the input ends inside it.
-#[derive(Drop)]
+#[derive(Clone, Copy)]
 enum ReadRow {
     Whole(Row),
     Cut,
 }
 
 // What was read of the rows: all of them, or those before the one that is cut.
-#[derive(Drop)]
+#[derive(Clone, Copy)]
 struct ReadTable {
     is_whole: bool,
     table: Table,

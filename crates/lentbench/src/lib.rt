@@ -1,4 +1,6 @@
 //! The caller's loop lends the bench itself to each call: release and tick on a lent bench, over the steps by value.
+#![tactic(auto)]
+
 ghost use Rattle.std.specs.Prelude.{◌≡◌};
 ghost use Rattle.bench.specs.History.{after};
 ghost use Rattle.bench.specs.Step.{release, tick};
@@ -8,7 +10,7 @@ use bench::{Bench, Finishes, Outcome};
 use quantities::Ticks;
 
 // The answer to a tick of a lent bench: taken or refused, and the polls that ended.
-#[derive(Drop)]
+#[derive(Clone, Copy)]
 pub struct TickAnswer {
     pub outcome: Outcome,
     pub finishes: Finishes,

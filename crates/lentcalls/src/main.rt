@@ -1,4 +1,6 @@
 // Lends benches from standard input to calls, and writes the answers and the benches: second/README.md has the bytes.
+#![tactic(auto)]
+
 ghost use Rattle.std.specs.Prelude.{◌≡◌, ◌≤◌, length};
 ghost use Rattle.io.specs.Counts.{IsPrefixLen};
 ghost use Rattle.bench.specs.History.{after};
@@ -32,7 +34,7 @@ const RELEASE: u8 = 1;
 const RUN: u8 = 3;
 
 // A bench after a call, and whether the answer could be written.
-#[derive(Drop)]
+#[derive(Clone, Copy)]
 struct Ran {
     is_written: bool,
     bench: Bench,

@@ -1,4 +1,6 @@
 //! The analysis on the caller's own list of rows, which is only read, with the bounds written into a lent list.
+#![tactic(auto)]
+
 ghost use Rattle.std.specs.Prelude.{◌≡◌, ◌≤◌, ◌<◌, [], length, get_or};
 ghost use Rattle.quantities.specs.Limits.{row_capacity};
 ghost use Rattle.quantities.specs.Table.{rows_of};
@@ -13,7 +15,7 @@ use quantities::{Checked, Fault, Row, Table, Ticks};
 use windows::Answer;
 
 // What the caller is told: the answer, the bounds, and how many of these are to be written.
-#[derive(Drop)]
+#[derive(Clone, Copy)]
 pub struct Told {
     pub answer: Answer,
     pub bounds: [Ticks; Table::ROW_CAPACITY],

@@ -1,4 +1,6 @@
 //! The lines of the program's text, put into a lent buffer; each function answers the next place.
+#![tactic(auto)]
+
 ghost use Rattle.std.specs.Prelude.{◌+◌, ◌*◌, ◌≤◌, length};
 ghost use Rattle.printing.specs.Buffer.{Puts};
 ghost use Rattle.lines.specs.Lines.{first_line, row_line, row_lines, shown_line, not_shown_line, refused_line, line_room};

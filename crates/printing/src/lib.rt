@@ -1,4 +1,6 @@
 //! Words and numbers put into a lent buffer from a place on; each answers the next place.
+#![tactic(auto)]
+
 ghost use Rattle.std.specs.Prelude.{◌+◌, ◌≤◌, ◌++◌, length};
 ghost use Rattle.printing.specs.Decimal.{decimal, number_room};
 ghost use Rattle.printing.specs.Buffer.{Puts};

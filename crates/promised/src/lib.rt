@@ -1,5 +1,7 @@
 //! Each public function, called with nothing added: the contracts here are the promises' own words, so that a
 //! contract below cannot change together with its code and leave the promises behind.
+#![tactic(auto)]
+
 ghost use Rattle.std.specs.Prelude.{ltb, ◌≡◌};
 ghost use Rattle.exports.specs.Exported.{rows_from};
 ghost use Rattle.promised.specs.Promised.{SheetAnswer, FirstSheetAnswer, TextAnswer};

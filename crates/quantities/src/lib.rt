@@ -1,4 +1,6 @@
 //! The quantities of document 01: instants, lengths, microseconds, a row, a table with its named limits, and a fault.
+#![tactic(auto)]
+
 ghost use Rattle.std.specs.Prelude.{◌≡◌, ◌≤◌, ◌<◌, ltb};
 ghost use Rattle.quantities.specs.Limits.{row_capacity, core_limit, largest_gap};
 ghost use Rattle.quantities.specs.Row.{cost};
@@ -6,19 +8,19 @@ ghost use Rattle.quantities.specs.Table.{rows_of, empty_table, with_row};
 ghost use Rattle.quantities.specs.Checks.{row_fault, rows_fault, list_fault, checked_of};
 
 // A point on the bench's clock.
-#[derive(Drop)]
+#[derive(Clone, Copy)]
 pub struct Instant(pub u64);
 
 // A length of time in ticks: C, D, T, a window, a bound.
-#[derive(Drop)]
+#[derive(Clone, Copy)]
 pub struct Ticks(pub u64);
 
 // A length of time in microseconds, as a sheet gives it.
-#[derive(Drop)]
+#[derive(Clone, Copy)]
 pub struct Micros(pub u64);
 
 // A landing station as the analysis sees it: worst-case time, deadline, smallest gap.
-#[derive(Drop)]
+#[derive(Clone, Copy)]
 pub struct Row {
     pub c: Ticks,
     pub d: Ticks,
@@ -26,21 +28,21 @@ pub struct Row {
 }
 
 // Rows in priority order. `count` says how many there are; those past the capacity are counted and not kept.
-#[derive(Drop)]
+#[derive(Clone, Copy)]
 pub struct Table {
     pub count: usize,
     pub rows: [Row; Table::ROW_CAPACITY],
 }
 
 // What is wrong with a row list, by the number of document 01: the whole list, or the row at a place.
-#[derive(Drop)]
+#[derive(Clone, Copy)]
 pub enum Fault {
     WholeList(u32),
     OneRow(u32, usize),
 }
 
 // What checks 1 to 6 find in a table.
-#[derive(Drop)]
+#[derive(Clone, Copy)]
 pub enum Checked {
     Sound,
     Faulty(Fault),

@@ -1,4 +1,6 @@
 //! The records of an order sheet, a kind byte and then a body: the only place that knows a record's layout.
+#![tactic(auto)]
+
 ghost use Rattle.std.specs.Prelude.{◌≡◌, ◌+◌, ◌≤◌, ◌<◌, length};
 ghost use Rattle.records.specs.Bytes.{field};
 ghost use Rattle.records.specs.Records.{record_length, row_length, row_fields, blank_fields, record_on, size_on, is_end};
@@ -6,7 +8,7 @@ ghost use Rattle.records.specs.Records.{record_length, row_length, row_fields, b
 use quantities::Micros;
 
 // The fields of a row record, as they stand on the sheet.
-#[derive(Drop)]
+#[derive(Clone, Copy)]
 pub struct RowFields {
     pub label: u32,
     pub priority: u32,
@@ -32,7 +34,7 @@ impl RowFields {
 
 // What stands on the part of a sheet that begins where a record should: no byte, a kind that no record has,
 // a record of this kind that is cut short, or a whole record with its fields.
-#[derive(Drop)]
+#[derive(Clone, Copy)]
 pub enum Record {
     Missing,
     Unknown,

@@ -1,4 +1,6 @@
 //! A bench run from bytes: calls in six bytes each, answers as bytes in a lent buffer. docs/REPLAY.md has the format.
+#![tactic(auto)]
+
 ghost use Rattle.std.specs.Prelude.{◌≡◌, ◌+◌, ◌*◌, ◌≤◌, ◌<◌, length, take, drop};
 ghost use Rattle.std.proofs.lemmas.List.Edits.{sets};
 ghost use Rattle.quantities.specs.Limits.{row_capacity};
@@ -10,7 +12,7 @@ use bench::{Bench, Finish, Finishes, Outcome, Refusal, Request};
 use quantities::{Checked, Fault, Table, Ticks};
 
 // What stands where a call should be.
-#[derive(Drop)]
+#[derive(Clone, Copy)]
 pub enum Read {
     Nothing,
     Call(Request),
@@ -18,7 +20,7 @@ pub enum Read {
 
 // How a replay ended: all calls answered, in this many bytes; no bench; no call, or no room for its answer, at a byte
 // of the calls.
-#[derive(Drop)]
+#[derive(Clone, Copy)]
 pub enum Replayed {
     Done(usize),
     NotOpened(Fault),

@@ -1,4 +1,6 @@
 //! The order sheet of document 01: its reader.
+#![tactic(auto)]
+
 ghost use Rattle.std.specs.Prelude.{◌≡◌};
 ghost use Rattle.sheet.specs.Reader.{new_reading, after_record, refused, unread, first_sheet_of, read_of};
 
@@ -10,21 +12,21 @@ use records::{Record, is_end, record_on, size_on};
 mod judge;
 
 // How far a sheet has been read: whether its board record was, and what the records so far gave.
-#[derive(Drop)]
+#[derive(Clone, Copy)]
 pub struct Reading {
     pub begun: bool,
     pub sheet: Sheet,
 }
 
 // What is found at a record or in a whole sheet: nothing wrong, or document 01's number with its byte place.
-#[derive(Drop)]
+#[derive(Clone, Copy)]
 pub enum Verdict {
     Sound,
     Refused(u32, usize),
 }
 
 // The first sheet that stands on some bytes and the place behind its end record, or a refusal with the empty sheet.
-#[derive(Drop)]
+#[derive(Clone, Copy)]
 pub struct FirstSheet {
     pub verdict: Verdict,
     pub sheet: Sheet,
@@ -32,7 +34,7 @@ pub struct FirstSheet {
 }
 
 // The reader's answer. A refused sheet yields no table: its sheet is the empty one.
-#[derive(Drop)]
+#[derive(Clone, Copy)]
 pub struct Outcome {
     pub verdict: Verdict,
     pub sheet: Sheet,

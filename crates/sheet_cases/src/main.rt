@@ -1,4 +1,6 @@
 //! The written-out sheets of document 01 and some that are turned away, read and printed.
+#![tactic(auto)]
+
 use entries::Sheet;
 use libc::STDOUT_FILENO;
 use quantities::{Table, Ticks};

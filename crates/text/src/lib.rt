@@ -1,4 +1,6 @@
 //! The text of a sheet's answer, as the program prints it: document 01, "One sheet through the program".
+#![tactic(auto)]
+
 ghost use Rattle.std.specs.Prelude.{◌+◌, ◌*◌, ◌≤◌, length};
 ghost use Rattle.quantities.specs.Limits.{row_capacity};
 ghost use Rattle.quantities.specs.Paper.{fault_paper};

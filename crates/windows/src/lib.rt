@@ -1,11 +1,13 @@
 //! What a row above takes of a window, and the type of the answer to a list.
+#![tactic(auto)]
+
 ghost use Rattle.std.specs.Prelude.{◌≡◌};
 ghost use Rattle.windows.specs.Window.{interference};
 
 use quantities::{Fault, Ticks};
 
 // The answer to a row list: every row has its bound, a row has none, by its number and place, or the list has a fault.
-#[derive(Drop)]
+#[derive(Clone, Copy)]
 pub enum Answer {
     Shown,
     NotShown(u32, usize),
