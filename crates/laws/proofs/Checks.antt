@@ -2,7 +2,7 @@
 use mathlib.Core.Path.{◌≡◌, refl, ap, subst, ◌∙◌}
 use mathlib.Core.Bool.{Bool, true, false}
 use mathlib.Core.List.{List, [], ◌∷◌, ◌++◌, map}
-use mathlib.Core.Option.{Option, none, some}
+use mathlib.Core.Option.{none, some}
 use Rattle.laws.specs.Each.{Each}
 use Rattle.laws.specs.Checks.{Check, check_for, retold, first_failing, NoneFails, FirstFailing}
 use Rattle.laws.proofs.Tests.{not_one}

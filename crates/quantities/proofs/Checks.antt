@@ -2,7 +2,7 @@
 use Prim.Native.Nat.{ℕ, zero, suc, ◌≤◌, ◌<◌}
 use native.Mathlib.Omega.{arith}
 use mathlib.Core.Path.{◌≡◌, refl, ap}
-use mathlib.Core.Bool.{Bool, true, false}
+use mathlib.Core.Bool.{Bool}
 use mathlib.Core.List.{List, [], ◌∷◌, ◌++◌}
 use mathlib.Core.Option.{Option, none, some}
 use lib.ListN.{length}
@@ -13,7 +13,7 @@ use Rattle.laws.specs.Checks.{Check, first_failing}
 use Rattle.laws.proofs.Checks.{found_in_first, found_in_second}
 use Rattle.laws.proofs.Tests.{not_one}
 use Rattle.quantities.specs.Paper.{Paper, paper}
-use Rattle.quantities.specs.Checks.{check, is_last, row_checks, rows_checks, list_checks, room_checks, fault_from}
+use Rattle.quantities.specs.Checks.{is_last, row_checks, rows_checks, list_checks, room_checks, fault_from}
 use Rattle.quantities.specs.Checks.{row_fault, rows_fault, list_fault, lent_fault, SoundAt, checked_of}
 use Rattle.quantities.specs.declared.Row.{Row}
 use Rattle.quantities.specs.declared.Fault.{Fault}

@@ -1,21 +1,19 @@
 -- What the fault of a list means: the first failing check, said literally, and none exactly for a sound list.
 use Prim.Native.Nat.{ℕ, suc}
 use native.Mathlib.Omega.{arith}
-use mathlib.Core.Path.{◌≡◌, refl, ap, sym, ◌∙◌}
+use mathlib.Core.Path.{◌≡◌, refl, sym, ◌∙◌}
 use mathlib.Core.Logic.{◌↔◌}
-use mathlib.Core.Bool.{Bool, true, false}
-use mathlib.Core.List.{List, [], ◌∷◌, ◌++◌}
+use mathlib.Core.Bool.{Bool}
+use mathlib.Core.List.{List, [], ◌∷◌}
 use mathlib.Core.Option.{Option, none, some}
 use lib.ListN.{length}
 use lib.Dec.{eqb, ltb}
 use borrow.Author.Tests.{ltb-false, eqb-false}
-use Rattle.laws.specs.Each.{Each}
 use Rattle.laws.proofs.Tests.{or_false, not_one}
 use Rattle.laws.proofs.Checks.{none_fails}
 use Rattle.quantities.specs.Limits.{row_capacity, core_limit, largest_gap}
 use Rattle.quantities.specs.Row.{cost, deadline, gap}
-use Rattle.laws.specs.Checks.{Check, first_failing}
-use Rattle.quantities.specs.Checks.{is_last, row_checks, list_checks, fault_from}
+use Rattle.quantities.specs.Checks.{is_last, row_checks, list_checks}
 use Rattle.quantities.specs.Checks.{row_fault, rows_fault, list_fault, SoundAt, SoundRows, SoundList}
 use Rattle.quantities.specs.declared.Row.{Row}
 use Rattle.quantities.specs.declared.Fault.{Fault}

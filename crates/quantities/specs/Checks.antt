@@ -1,7 +1,6 @@
 -- Checks 1 to 7 of a row list, in their order, and the fault of a list: the first check that fails.
 use Rattle.std.specs.Prelude.{ℕ, zero, suc, ◌≤◌, ◌<◌, Bool, true, false, ◌||◌, List, [], ◌∷◌, ◌++◌, eqb, ltb, length}
 use Rattle.std.proofs.Math.Option.{Option, none, some}
-use Rattle.laws.specs.Each.{Each}
 use Rattle.laws.specs.Checks.{Check, check_for, first_failing}
 use Rattle.quantities.specs.Limits.{row_capacity, core_limit, largest_gap}
 use Rattle.quantities.specs.Row.{cost, deadline, gap, SoundRow}
