@@ -11,7 +11,7 @@ use native.Mathlib.Nat.{div-lt_iff_lt-mul}
 use lib.Dec.{T, ltb→lt, lt→ltb}
 use lib.ListN.{length}
 use Rattle.laws.specs.Each.{Each}
-use Rattle.quantities.specs.Row.{cost, gap, row_of}
+use Rattle.quantities.specs.Row.{row_of}
 use Rattle.windows.specs.Window.{plain, carry, limit, interference}
 use Rattle.windows.specs.Choice.{Bounded, bounded, Load, load, loads, carriers, total, Passes, most, passes}
 use Rattle.windows.proofs.Window.{interference_le_limit}
