@@ -5,10 +5,10 @@ use native.Mathlib.Decide.{dec_le}
 use mathlib.Core.Path.{◌≡◌, sym, ap, ◌∙◌}
 use mathlib.Core.Bool.{true}
 use mathlib.Core.List.{List, ◌++◌}
-use lib.ListN.{length, get_or, take, drop, length-append, length-drop, length-take, take-append-drop, get_or-append}
+use lib.ListN.{length, take, drop, length-append, length-drop, length-take, take-append-drop, get_or-append}
 use lib.Seq.{drop-append-le, take-append-le, take_all, get_or-take}
 use Rattle.records.specs.Bytes.{field}
-use Rattle.records.specs.Records.{board_kind, end_kind, board_length, row_length, end_length, longest_record}
+use Rattle.records.specs.Records.{board_kind, end_kind, board_length, end_length, longest_record}
 use Rattle.records.specs.Records.{record_length, is_row_kind, kind_on, size_on, cores_on, tick_on, count_on}
 use Rattle.records.specs.Records.{row_fields, record_on, OneRecord, RowRecord}
 use Rattle.records.specs.declared.Record.{Record}

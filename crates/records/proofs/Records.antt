@@ -29,10 +29,10 @@ unfolding record_length
 length_end = refl
 
 pub size_board : (part : List ℕ) → kind_on part ≡ board_kind → size_on part ≡ board_length
-size_board part kind = ap record_length kind ∙ length_board
+size_board part kind = omega (arith, ap record_length kind, length_board)
 
 pub size_end : (part : List ℕ) → kind_on part ≡ end_kind → size_on part ≡ end_length
-size_end part kind = ap record_length kind ∙ length_end
+size_end part kind = omega (arith, ap record_length kind, length_end)
 
 -- no record is longer than this
 pub length_most : (kind : ℕ) → record_length kind ≤ longest_record
