@@ -1,5 +1,5 @@
 -- The books of a row balance: what it had and what a history brings it is what the history serves it and what remains.
-use Prim.Native.Nat.{ℕ, zero, suc, ◌+◌, ◌-◌, ◌≤◌, ◌<◌}
+use Prim.Native.Nat.{ℕ, ◌+◌, ◌-◌, ◌≤◌, ◌<◌}
 use native.Mathlib.Nat.{zero-add, add-zero}
 use native.Mathlib.Omega.{arith}
 use mathlib.Core.Path.{◌≡◌, refl, sym, ap, ◌∙◌}
@@ -7,7 +7,7 @@ use mathlib.Core.Bool.{Bool, true, false, ◌&&◌}
 use mathlib.Core.List.{List, [], ◌∷◌}
 use mathlib.Core.Option.{some}
 use lib.Dec.{eqb}
-use lib.ListN.{length, get_or, take, set, replicate}
+use lib.ListN.{length, get_or, take}
 use lib.Seq.{get_or-set_same, get_or-set_other, get_or-take}
 use borrow.Author.Tests.{eqb-true, eqb-false}
 use Rattle.laws.proofs.Lists.{get_d_repeated}
@@ -16,9 +16,8 @@ use Rattle.quantities.specs.Table.{rows_of}
 use Rattle.quantities.specs.declared.Table.{Table}
 use Rattle.quantities.proofs.Rows.{length_rows}
 use Rattle.bench.specs.declared.Bench.{Bench}
-use Rattle.bench.specs.declared.Outcome.TheVariants.{Taken, Refused}
 use Rattle.bench.specs.State.{idle, work, rows, state_at}
-use Rattle.bench.specs.Serving.{units, after_units, worked}
+use Rattle.bench.specs.Serving.{after_units}
 use Rattle.bench.specs.Step.{Step, empty_bench, opened, fresh, started, served, moved, taken, release, tick}
 use Rattle.bench.specs.History.{Call, releases, ticks, do_call, after, is_taken, brought, gave, accepted, served_in}
 use Rattle.bench.proofs.State.{sound_fits}

@@ -1,35 +1,31 @@
 -- Rows below make no difference to serving: two runs that agree down to place k go on alike there, whatever happens below.
-use Prim.Native.Nat.{ℕ, zero, suc, ◌+◌, ◌-◌, ◌≤◌, ◌<◌}
+use Prim.Native.Nat.{ℕ, suc, ◌-◌, ◌≤◌, ◌<◌}
 use native.Mathlib.Omega.{arith}
 use native.Mathlib.Nat.{zero-add}
 use mathlib.Core.Path.{◌≡◌, refl, sym, ap, ◌∙◌}
-use mathlib.Core.Bool.{Bool, true, false, ◌&&◌, ◌||◌}
+use mathlib.Core.Bool.{Bool, true, false, ◌||◌}
 use mathlib.Core.List.{List, [], ◌∷◌}
 use mathlib.Core.Option.{some}
 use lib.Dec.{eqb, leb, ltb}
-use lib.ListN.{length, get_or, take, set, replicate}
+use lib.ListN.{length, get_or, take}
 use lib.Seq.{get_or-take, take-take, take-set-lt, take-set-le}
 use borrow.Author.Tests.{lt-ltb, le-ltb, ltb-true, leb-true, leb-false, ne_eqb}
 use Rattle.laws.specs.Checks.{Check, check_for, first_failing}
 use Rattle.laws.proofs.Tests.{and_true, not_one}
-use Rattle.quantities.specs.Limits.{row_capacity}
 use Rattle.quantities.specs.Row.{cost, no_row}
 use Rattle.quantities.specs.Table.{rows_of}
 use Rattle.quantities.specs.declared.Row.{Row}
 use Rattle.quantities.specs.declared.Table.{Table}
-use Rattle.bench.specs.declared.RowState.{RowState}
 use Rattle.bench.specs.declared.Bench.{Bench}
 use Rattle.bench.specs.declared.Refusal.{Refusal}
 use Rattle.bench.specs.declared.Refusal.TheVariants.{NoPlace, Unfinished, TooSoon, WrongDemand, BrokenRecord}
-use Rattle.bench.specs.declared.Finish.{Finish}
-use Rattle.bench.specs.declared.Outcome.{Outcome}
-use Rattle.bench.specs.declared.Outcome.TheVariants.{Taken, Refused}
-use Rattle.bench.specs.State.{last_instant, idle, work, rows, row_at, state_at, broken}
+use Rattle.bench.specs.declared.Outcome.TheVariants.{Taken}
+use Rattle.bench.specs.State.{idle, work, rows, row_at, broken}
 use Rattle.bench.specs.Refusal.{soon_at, full_at, release_tests, tick_tests}
-use Rattle.bench.specs.Serving.{units, worked, finished}
-use Rattle.bench.specs.Step.{Step, empty_bench, opened, fresh, started, served, moved, taken, release}
+use Rattle.bench.specs.Serving.{units}
+use Rattle.bench.specs.Step.{Step, empty_bench, opened, fresh, started, served, moved, taken}
 use Rattle.bench.specs.History.{Call, releases, ticks, call_tests, do_call, after, concerns, calls_to, finishes_to}
-use Rattle.bench.specs.History.{Heard, heard_of, heard, SameRun}
+use Rattle.bench.specs.History.{heard_of, heard, SameRun}
 use Rattle.bench.proofs.State.{whole_unbroken}
 use Rattle.bench.proofs.Steps.{refused_step_lem, taken_step_lem, CallCase, refused, released, ticked, call_case}
 use Rattle.bench.proofs.Kept.{Kept, kept_call, kept_opened, opened_empty}

@@ -2,10 +2,10 @@
 use Prim.Native.Nat.{suc, ◌+◌, ◌-◌, ◌≤◌, ◌<◌}
 use native.Mathlib.Numerals.{add-one}
 use native.Mathlib.Omega.{arith}
-use mathlib.Core.Path.{◌≡◌, refl, ap, ◌∙◌}
+use mathlib.Core.Path.{◌≡◌, ap, ◌∙◌}
 use mathlib.Core.Bool.{Bool, true, false}
 use mathlib.Core.List.{List, [], ◌∷◌, ◌++◌, append_assoc, append-nil}
-use lib.ListN.{length, replicate, set, length-append}
+use lib.ListN.{length, replicate, length-append}
 use lib.Seq.{set-append_seam}
 use Rattle.quantities.specs.Limits.{row_capacity}
 use Rattle.bench.specs.declared.Finish.{Finish}

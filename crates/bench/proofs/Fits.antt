@@ -1,7 +1,6 @@
 -- Each poll that a tick's answer lists has a place of at most 32 and a response of at most 1,000,000,000: a byte and four.
 use Prim.Native.Nat.{ℕ, suc, ◌≤◌, ◌<◌}
 use native.Mathlib.Omega.{arith}
-use mathlib.Core.Path.{◌≡◌, refl}
 use lib.ListN.{length}
 use Rattle.laws.specs.Each.{Each}
 use Rattle.laws.proofs.Lists.{each_map}

@@ -1,12 +1,12 @@
 -- A bench that was opened is well kept, every call keeps it so, and then no call gives 29.
-use Prim.Native.Nat.{ℕ, zero, suc, ◌+◌, ◌-◌, ◌≤◌, ◌<◌}
+use Prim.Native.Nat.{ℕ, zero, suc, ◌-◌, ◌≤◌, ◌<◌}
 use native.Mathlib.Omega.{arith}
 use mathlib.Core.Path.{◌≡◌, refl, sym, ap, ◌∙◌}
-use mathlib.Core.Bool.{Bool, true, false, ◌||◌}
+use mathlib.Core.Bool.{false, ◌||◌}
 use mathlib.Core.List.{List, [], ◌∷◌}
 use mathlib.Core.Option.{Option, none, some}
 use lib.Dec.{ltb}
-use lib.ListN.{length, get_or, take, set, replicate, length-set, length-replicate}
+use lib.ListN.{length, get_or, set, replicate, length-set, length-replicate}
 use borrow.Author.Tests.{le-ltb, ltb-false}
 use Rattle.laws.specs.Checks.{check_for, first_failing}
 use Rattle.laws.proofs.Checks.{told_has, first_passes}
@@ -23,8 +23,8 @@ use Rattle.bench.specs.declared.Last.TheVariants.{Never, At}
 use Rattle.bench.specs.declared.RowState.{RowState}
 use Rattle.bench.specs.declared.Bench.{Bench}
 use Rattle.bench.specs.declared.Refusal.{Refusal}
-use Rattle.bench.specs.declared.Refusal.TheVariants.{NoPlace, Unfinished, TooSoon, WrongDemand, ClockEnd, BrokenRecord}
-use Rattle.bench.specs.declared.Outcome.TheVariants.{Taken, Refused}
+use Rattle.bench.specs.declared.Refusal.TheVariants.{ClockEnd, BrokenRecord}
+use Rattle.bench.specs.declared.Outcome.TheVariants.{Refused}
 use Rattle.bench.specs.State.{last_instant, idle, work, rows, row_at, last_broken, row_broken, rows_broken, broken}
 use Rattle.bench.specs.Refusal.{release_tests, tick_tests}
 use Rattle.bench.specs.Serving.{after_units, worked}

@@ -19,8 +19,8 @@ use Rattle.bench.specs.declared.Finish.{Finish}
 use Rattle.bench.specs.declared.Outcome.{Outcome}
 use Rattle.bench.specs.State.{idle, state_at}
 use Rattle.bench.specs.Step.{Step, served}
-use Rattle.bench.specs.TickRule.{Gets, PollEnds, RisingPlaces, TickRule}
-use Rattle.bench.specs.Rules.{ReleaseRule, OneRelease, OneTick}
+use Rattle.bench.specs.TickRule.{Gets, PollEnds, RisingPlaces}
+use Rattle.bench.specs.Rules.{OneRelease, OneTick}
 use Rattle.bench.proofs.TickRule.{gets_one, has_got}
 
 -- Lists of as many states that agree at each place are the same.

@@ -2,7 +2,6 @@
 use Prim.Native.Nat.{ℕ}
 use mathlib.Core.Path.{◌≡◌, refl}
 use mathlib.Core.Bool.{true}
-use mathlib.Core.Option.{Option, none, some}
 use Rattle.quantities.specs.Table.{rows_of, empty_table}
 use Rattle.laws.specs.Checks.{first_failing}
 use Rattle.quantities.specs.Checks.{list_fault, list_checks, fault_from, checked_of}
@@ -10,7 +9,6 @@ use Rattle.quantities.specs.declared.Table.{Table}
 use Rattle.quantities.specs.declared.Fault.{Fault}
 use Rattle.quantities.specs.declared.Checked.TheVariants.{Sound, Faulty}
 use Rattle.quantities.proofs.Checks.{checked_sound, checked_faulty}
-use Rattle.bench.specs.declared.Bench.{Bench}
 use Rattle.bench.specs.State.{is_fault, broken}
 use Rattle.bench.specs.Step.{empty_bench, no_bench, opened_after, opened, bench_or, opening_of}
 

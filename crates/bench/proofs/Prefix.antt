@@ -1,15 +1,13 @@
 -- Serving looks at rows from the top only: the first n rows get and end what they would get and end alone.
-use Prim.Native.Nat.{ℕ, zero, suc, ◌+◌, ◌-◌, ◌≤◌, ◌<◌}
+use Prim.Native.Nat.{ℕ, zero, suc, ◌+◌, ◌-◌, ◌<◌}
 use native.Mathlib.Omega.{arith}
-use mathlib.Core.Path.{◌≡◌, refl, sym, ap, ◌∙◌}
+use mathlib.Core.Path.{◌≡◌, refl, ap}
 use mathlib.Core.Bool.{Bool, true, false}
 use mathlib.Core.List.{List, [], ◌∷◌}
-use lib.Dec.{leb}
-use lib.ListN.{length, take}
+use lib.ListN.{take}
 use lib.Seq.{take-nil}
 use borrow.Author.Tests.{le-leb, lt-leb}
 use Rattle.bench.specs.declared.RowState.{RowState}
-use Rattle.bench.specs.declared.Finish.{Finish}
 use Rattle.bench.specs.State.{work}
 use Rattle.bench.specs.Serving.{unit, units, after_units, worked, ends, finish_of, finished}
 use Rattle.bench.specs.History.{finishes_to}

@@ -4,8 +4,8 @@ use native.Mathlib.Decide.{dec_le}
 use native.Mathlib.Nat.{add-zero}
 use native.Mathlib.Omega.{arith}
 use mathlib.Core.Logic.{inl, inr}
-use mathlib.Core.Path.{◌≡◌, refl, sym, ap, ◌∙◌}
-use mathlib.Core.Bool.{Bool, true, false, ◌&&◌}
+use mathlib.Core.Path.{◌≡◌, refl, sym}
+use mathlib.Core.Bool.{Bool, true, false}
 use mathlib.Core.List.{List, [], ◌∷◌}
 use lib.Dec.{eqb, ltb}
 use lib.ListN.{length, get_or, take, length-take, get_or-eq_default}
@@ -17,7 +17,7 @@ use Rattle.bench.specs.declared.RowState.{RowState}
 use Rattle.bench.specs.declared.Bench.{Bench}
 use Rattle.bench.specs.declared.Finish.{Finish}
 use Rattle.bench.specs.State.{idle, work, rows, state_at}
-use Rattle.bench.specs.Serving.{units, ends, since, finish_of, finished}
+use Rattle.bench.specs.Serving.{ends, since, finish_of, finished}
 use Rattle.bench.specs.Step.{served, taken}
 use Rattle.bench.specs.TickRule.{RisingPlaces}
 use Rattle.bench.proofs.Units.{unit_le_one}

@@ -1,17 +1,16 @@
 -- Laws of one row's state: its last release, when its record is broken, and its part in a tick.
-use Prim.Native.Nat.{ℕ, zero, suc, ◌-◌, ◌<◌, min}
+use Prim.Native.Nat.{ℕ, zero, suc, ◌-◌, ◌<◌}
 use native.Mathlib.Nat.{sub-zero}
 use native.Mathlib.Omega.{arith}
 use mathlib.Core.Path.{◌≡◌, refl, sym, ◌∙◌}
-use mathlib.Core.Bool.{Bool, true, false, ◌||◌}
+use mathlib.Core.Bool.{false}
 use lib.Dec.{eqb}
 use borrow.Author.Tests.{ne_eqb}
 use Rattle.quantities.specs.declared.Instant.{Instant}
 use Rattle.bench.specs.declared.Last.{Last}
-use Rattle.bench.specs.declared.Last.TheVariants.{Never, At}
+use Rattle.bench.specs.declared.Last.TheVariants.{At}
 use Rattle.bench.specs.declared.RowState.{RowState}
-use Rattle.bench.specs.declared.Turn.{Turn}
-use Rattle.bench.specs.State.{work, last_broken}
+use Rattle.bench.specs.State.{work}
 use Rattle.bench.specs.Serving.{unit, after_units, ends, since, turn_of}
 
 -- Since a release that is after the instant there are none.

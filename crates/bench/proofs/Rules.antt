@@ -2,26 +2,24 @@
 use Prim.Native.Nat.{ℕ, ◌-◌}
 use native.Mathlib.Omega.{arith}
 use mathlib.Core.Path.{◌≡◌, refl, sym, ap, ◌∙◌}
-use mathlib.Core.Bool.{Bool, true, false}
-use mathlib.Core.List.{List, [], ◌∷◌, map}
+use mathlib.Core.Bool.{false}
+use mathlib.Core.List.{List, [], ◌∷◌}
 use mathlib.Core.Option.{Option, none, some}
 use lib.ListN.{length, length-set}
 use borrow.Author.Tests.{ne_eqb, le-ltb}
-use Rattle.laws.specs.Each.{Each}
 use Rattle.laws.proofs.Lists.{get_d_repeated}
 use Rattle.quantities.specs.Limits.{row_capacity}
 use Rattle.quantities.specs.Row.{cost, gap}
 use Rattle.quantities.specs.Table.{rows_of}
 use Rattle.laws.specs.Checks.{first_failing, FirstFailing}
 use Rattle.quantities.specs.Checks.{list_checks, list_fault, checked_of}
-use Rattle.quantities.specs.Paper.{Paper, paper, checked_paper}
+use Rattle.quantities.specs.Paper.{Paper, checked_paper}
 use Rattle.quantities.proofs.Rows.{length_rows}
 use Rattle.laws.proofs.Checks.{none_fails, none_found, first_failing_lem, first_found, retold_first, retold_none}
 use Rattle.laws.proofs.Tests.{not_one}
 use Rattle.quantities.proofs.Sound.{sound_list_means}
 use Rattle.quantities.proofs.Paper.{turned_away}
 use Rattle.bench.specs.declared.Bench.{Bench}
-use Rattle.bench.specs.declared.Refusal.{Refusal}
 use Rattle.bench.specs.declared.Outcome.TheVariants.{Taken}
 use Rattle.bench.specs.State.{idle, rows, row_at, state_at, work}
 use Rattle.bench.specs.Refusal.{too_soon, release_tests, tick_tests}

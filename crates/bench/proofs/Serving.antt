@@ -2,7 +2,7 @@
 use Prim.Native.Nat.{ℕ, suc, ◌+◌, ◌-◌, ◌≤◌, ◌<◌}
 use native.Mathlib.Numerals.{add-one}
 use native.Mathlib.Omega.{arith}
-use mathlib.Core.Path.{◌≡◌, refl, sym, ap, ◌∙◌}
+use mathlib.Core.Path.{◌≡◌, refl, sym, ap}
 use mathlib.Core.Bool.{Bool, true, false}
 use mathlib.Core.List.{List, [], ◌∷◌, ◌++◌, append_assoc}
 use lib.ListN.{length, get_or, take, drop, set, length-take, take-append-drop}
@@ -12,7 +12,7 @@ use Rattle.bench.specs.declared.Finish.{Finish}
 use Rattle.bench.specs.declared.Finishes.{Finishes}
 use Rattle.bench.specs.declared.Turn.{Turn}
 use Rattle.bench.specs.State.{idle, work}
-use Rattle.bench.specs.Serving.{unit, units, after_units, worked, ends, finish_of, finished, turn_of}
+use Rattle.bench.specs.Serving.{unit, units, worked, ends, finish_of, finished, turn_of}
 use Rattle.quantities.specs.Limits.{row_capacity}
 use Rattle.bench.specs.Ended.{finishes_of, noted}
 use Rattle.bench.proofs.Ended.{noted_all, noted_all_lem}

@@ -3,9 +3,8 @@ use Prim.Native.Nat.{ℕ, suc, ◌+◌, ◌-◌, ◌≤◌, ◌<◌}
 use native.Mathlib.Nat.{sub-zero}
 use native.Mathlib.Numerals.{add-one}
 use native.Mathlib.Omega.{arith}
-use mathlib.Core.Path.{◌≡◌, refl, sym, ap, ◌∙◌}
-use mathlib.Core.Bool.{Bool, true, false}
-use mathlib.Core.List.{List, [], ◌∷◌, ◌++◌}
+use mathlib.Core.Path.{◌≡◌, sym, ◌∙◌}
+use mathlib.Core.List.{List, [], ◌++◌}
 use lib.ListN.{length, get_or, take, drop, set, length-set}
 use Rattle.quantities.specs.Limits.{row_capacity}
 use Rattle.quantities.proofs.Rows.{length_rows}
@@ -14,10 +13,9 @@ use Rattle.bench.specs.declared.Bench.{Bench}
 use Rattle.bench.specs.declared.Finish.{Finish}
 use Rattle.bench.specs.declared.Finishes.{Finishes}
 use Rattle.bench.specs.declared.Turn.{Turn}
-use Rattle.bench.specs.declared.Ticked.{Ticked}
 use Rattle.bench.specs.declared.Outcome.TheVariants.{Taken}
-use Rattle.bench.specs.State.{idle, rows}
-use Rattle.bench.specs.Serving.{units, worked, finished, finish_of, turn_of}
+use Rattle.bench.specs.State.{idle}
+use Rattle.bench.specs.Serving.{finish_of, turn_of}
 use Rattle.bench.specs.Ended.{finishes_of, noted}
 use Rattle.bench.specs.Step.{later, served, moved, taken, ticked_of}
 use Rattle.bench.proofs.Ended.{noted_all, noted_count}

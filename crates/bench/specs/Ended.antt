@@ -1,5 +1,5 @@
 -- The polls that ended in a tick as the code lists them: how many, and an array that is blank beyond them.
-use Rattle.std.specs.Prelude.{◌+◌, ◌-◌, Bool, true, false, List, [], ◌∷◌, ◌++◌, length, replicate, set}
+use Rattle.std.specs.Prelude.{◌+◌, ◌-◌, Bool, true, false, List, ◌++◌, length, replicate, set}
 use Rattle.quantities.specs.Limits.{row_capacity}
 use Rattle.bench.specs.declared.Finish.{Finish}
 use Rattle.bench.specs.declared.Finishes.{Finishes}

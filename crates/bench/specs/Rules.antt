@@ -1,7 +1,6 @@
 -- What the bench promises, a type for each sentence of document 01. proofs/Rules.antt proves each.
 use Rattle.std.specs.Prelude.{ℕ, ◌+◌, ◌≤◌, ◌<◌, ◌≡◌, false, ◌||◌, List, [], ◌∷◌, map, eqb, ltb, length}
 use Rattle.std.proofs.Math.Option.{none, some}
-use Rattle.laws.specs.Each.{Each}
 use Rattle.quantities.specs.Limits.{row_capacity}
 use Rattle.quantities.specs.Row.{cost, gap}
 use Rattle.quantities.specs.Table.{rows_of}

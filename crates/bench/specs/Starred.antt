@@ -7,10 +7,8 @@ use Rattle.quantities.specs.Table.{empty_table, with_row}
 use Rattle.quantities.specs.declared.Table.{Table}
 use Rattle.bench.specs.declared.Bench.{Bench}
 use Rattle.bench.specs.declared.Finish.{Finish}
-use Rattle.bench.specs.declared.Outcome.{Outcome}
-use Rattle.bench.specs.declared.Outcome.TheVariants.{Taken}
 use Rattle.bench.specs.Step.{opened, Step}
-use Rattle.bench.specs.History.{Call, releases, ticks, after, steps}
+use Rattle.bench.specs.History.{Call, releases, ticks, steps}
 use Rattle.bench.specs.Computing.{bench_computes}
 
 -- the board of the case, on one core

@@ -1,5 +1,5 @@
 -- The calls on a bench: opening, release, tick. A refused call changes nothing.
-use Rattle.std.specs.Prelude.{ℕ, suc, ◌-◌, Bool, List, [], length, take, set, replicate}
+use Rattle.std.specs.Prelude.{ℕ, suc, ◌-◌, List, [], length, take, set, replicate}
 use Rattle.std.proofs.Math.Option.{Option, none, some}
 use Rattle.laws.specs.Checks.{first_failing}
 use Rattle.quantities.specs.Limits.{row_capacity}

@@ -1,0 +1,25 @@
+-- Bench::release starts the poll where its tests permit it, and else changes nothing.
+use native.Mathlib.Omega.{arith}
+use mathlib.Core.Path.{sym, ◌∙◌}
+use Rattle.quantities.proofs.Rows.{length_rows}
+use Rattle.bench.specs.Step.{released_of, release, unless_refused}
+use Rattle.bench.proofs.State.{whole_of, sound_fits}
+use Rattle.bench.proofs.Permitted.{may_release, outcome_taken, outcome_refused}
+use Rattle.bench.proofs.Bench.release.Goals as goal
+
+pub returns-in-Refused : goal.returns-in-Refused
+unfolding released_of release unless_refused
+returns-in-Refused c =
+    simp (outcome_refused _ c.in-Refused.why (sym c.judge_release-outcome.ensures ∙ c.in-Refused.is))
+
+-- a permitted release is at a place of the table
+pub start-bench-requires : goal.start-bench-requires
+start-bench-requires c =
+    let b = c.args.self in
+    let m = may_release b c.args.place c.args.demand.0 (outcome_taken _ (sym c.judge_release-outcome.ensures ∙ c.in-Taken.is)) in
+    (m.low, omega (arith, m.high, length_rows b.table, sound_fits b.cores b.table (whole_of b m.whole).sound))
+
+pub returns : goal.returns
+unfolding released_of release unless_refused
+returns c =
+    simp (c.start-bench.ensures, outcome_taken _ (sym c.judge_release-outcome.ensures ∙ c.in-Taken.is))
