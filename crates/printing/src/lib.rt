@@ -10,7 +10,8 @@ fn put_digits(out: &mut [u8], at: usize, n: u64) -> usize
     requires { at + length (decimal n) ≤ length out.old }
     ensures { Puts out.old at (decimal n) out.new result }
 {
-    if n < 10 {
+    let is_one_digit = n < 10;
+    if is_one_digit {
         out[at] = 48 + n as u8;
         return at + 1;
     }
