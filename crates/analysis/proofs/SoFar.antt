@@ -6,7 +6,7 @@ use native.Mathlib.Numerals.{add-one}
 use mathlib.Core.Path.{◌≡◌, refl, sym, ap, ap₂, subst⁻¹, ◌∙◌}
 use mathlib.Core.List.{List, [], ◌∷◌, ◌++◌, append-nil}
 use mathlib.Core.Option.{Option, none, some}
-use lib.ListN.{length, take, drop, set, replicate, length-take, length-map, length-set}
+use lib.ListN.{length, get_or, take, drop, set, replicate, length-take, length-map, length-set}
 use lib.Seq.{drop-cons, take-suc-set, drop-set-lt, drop-drop, get_or-set_same, get_or-set_other, append_snoc}
 use Rattle.laws.specs.Each.{Each}
 use Rattle.laws.proofs.Lists.{map_set}
@@ -85,7 +85,11 @@ module _ (cores : ℕ) (table : Table) (bounds : List Ticks) (i : ℕ)
         → above table (set bounds i (ticks x)) (suc i) ≡ bounded (row_of_index (rows_of table) i) x ∷ above table bounds i
     above_next x =
         let inside : i < length (numbers bounds) = omega (arith, length-map bounds (λ (t : Ticks). t.0)) in
-        rw (map_set (λ (t : Ticks). t.0) bounds i (ticks x), get_or-set_same (numbers bounds) i x 0 inside, above_kept (rows_of table) (numbers bounds) i i x (le_refl i)) refl
+        let written = map_set (λ (t : Ticks). t.0) bounds i (ticks x) in
+        ap₂ (λ (b : ℕ) (up : List Bounded). bounded (row_of_index (rows_of table) i) b ∷ up)
+        (ap (λ (ns : List ℕ). get_or ns i 0) written ∙ get_or-set_same (numbers bounds) i x 0 inside)
+        (ap (λ (ns : List ℕ). above_index (rows_of table) ns i) written
+        ∙ above_kept (rows_of table) (numbers bounds) i i x (le_refl i))
 
     -- the row at index i has a bound
     pub so_far_next : (x : ℕ) → SoundRow (row_of_index (rows_of table) i)
