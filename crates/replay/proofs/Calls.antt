@@ -23,7 +23,7 @@ use Rattle.bench.proofs.Open.{opening_sound}
 use Rattle.bench.specs.History.{do_call, call_of, steps}
 use Rattle.replay.specs.declared.Replayed.TheVariants.{Done, NotOpened, NotACall, NoRoom}
 use Rattle.replay.specs.Format.{request_in, answer_bytes, answers_joined}
-use Rattle.replay.specs.Replay.{requests_in, Replay, ending, answered, replay_from, replay_after, replay}
+use Rattle.replay.specs.Replay.{Requests, requests_in, Replay, ending, answered, replay_from, replay_after, replay}
 use Rattle.replay.proofs.Format.{requests_stop, requests_next}
 use Rattle.replay.proofs.Writes.{sets_append}
 
@@ -31,6 +31,17 @@ use Rattle.replay.proofs.Writes.{sets_append}
 abbrev pub replay_rest : (calls : List ℕ) → Bench → (place at : ℕ) → List ℕ → Replay
 replay_rest calls b place at out =
     answered (requests_in (drop place calls)).whole b (requests_in (drop place calls)).list place at out
+
+-- a request that there is room for is answered, and the rest follows
+with_room : (whole : Bool) (b : Bench) (request : Request) (rest : List Request) (place at : ℕ) (out : List ℕ)
+    → length (answer_bytes (do_call b (call_of request))) ≤ length out - at
+    → answered whole b (request ∷ rest) place at out
+    ≡ answered whole (do_call b (call_of request)).bench rest (place + 6)
+    (at + length (answer_bytes (do_call b (call_of request))))
+    (sets out at (answer_bytes (do_call b (call_of request))))
+unfolding answered
+with_room whole b request rest place at out h =
+    rw (answered, le-ltb (length out - at) (length (answer_bytes (do_call b (call_of request)))) h)
 
 -- One turn at a byte of the calls.
 module _ (calls : List ℕ) (b : Bench) (place at : ℕ) (out : List ℕ) where
@@ -48,9 +59,15 @@ module _ (calls : List ℕ) (b : Bench) (place at : ℕ) (out : List ℕ) where
 
     pub one_more : length (answer_bytes step) ≤ length out - at
         → replay_rest calls b place at out ≡ replay_rest calls step.bench (place + 6) (at + length (answer_bytes step)) (sets out at (answer_bytes step))
-    unfolding answered
     one_more h =
-        rw ((requests_next (drop place calls) request e).1, answered, le-ltb (length out - at) (length (answer_bytes step)) h, drop-drop 6 place calls)
+        ap (λ (r : Requests). answered r.whole b r.list place at out) (requests_next (drop place calls) request e).1
+        ∙ with_room (requests_in (drop 6 (drop place calls))).whole b request (requests_in (drop 6 (drop place calls))).list place at out h
+        ∙ ap
+        (λ (bytes : List ℕ).
+        answered (requests_in bytes).whole step.bench (requests_in bytes).list (place + 6)
+        (at + length (answer_bytes step))
+        (sets out at (answer_bytes step)))
+        (drop-drop 6 place calls)
 
   pub all_done : length calls ≤ place → replay_rest calls b place at out ≡ record { answer = Done at; out = out }
   unfolding answered requests_in

@@ -1,6 +1,5 @@
 -- number_of answers by cases of the outcome.
 use Rattle.bench.specs.Refusal.{refusal_paper, outcome_paper}
-use borrow.Author.Rules.{rules}
 use Rattle.replay.proofs.number_of.Goals as goal
 
 pub returns-in_default : goal.returns-in_default

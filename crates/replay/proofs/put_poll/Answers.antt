@@ -2,7 +2,6 @@
 use native.Mathlib.Omega.{arith}
 use lib.ListN.{length-set}
 use Rattle.replay.proofs.Writes.{poll_written}
-use borrow.Author.Rules.{rules}
 use Rattle.replay.proofs.put_poll.Goals as goal
 
 pub bounds-out-at-2 : goal.bounds-out-at-2

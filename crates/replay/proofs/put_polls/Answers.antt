@@ -1,9 +1,6 @@
 -- put_polls stores the bytes of the polls one after the other.
-use Prim.Native.Nat.{◌-◌}
 use native.Mathlib.Omega.{arith}
-use borrow.Author.Rules.{rules}
-use lib.ListN.{length-map}
-use Rattle.replay.proofs.Writes.{Writes, writes_first, writes_next, writes_last}
+use Rattle.replay.proofs.Writes.{writes_first, writes_next, writes_last}
 use Rattle.replay.proofs.put_polls.Goals as goal
 
 pub loop-i-init : goal.loop-i-init
@@ -11,8 +8,7 @@ loop-i-init c = writes_first c.args.out.now c.args.from c.args.polls
 
 pub loop-i-preserved : goal.loop-i-preserved
 loop-i-preserved c =
-    let long = simp length-map at s.well-formed.1.1.0.1.1.1.0.1.0.1 in
-    writes_next c.args.out.now c.args.from c.args.polls c.loop-i.out c.loop-i.at c.loop-i.i c.loop-i.invariant (omega arith) (omega arith) c.put_poll.new.0 c.put_poll.ensures
+    writes_next c.args.out.now c.args.from c.args.polls c.loop-i.out c.loop-i.at c.loop-i.i c.loop-i.invariant (omega arith) (omega arith) c.put_poll.new.out c.put_poll.ensures
 
 pub returns : goal.returns
 returns c =

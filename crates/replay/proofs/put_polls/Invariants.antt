@@ -1,9 +1,6 @@
 -- put_polls stores the bytes of the polls one after the other.
 use Prim.Native.Nat.{◌-◌}
-use native.Mathlib.Omega.{arith}
-use borrow.Author.Rules.{rules}
-use lib.ListN.{length-map}
-use Rattle.replay.proofs.Writes.{Writes, writes_first, writes_next, writes_last}
+use Rattle.replay.proofs.Writes.{Writes}
 use Rattle.replay.proofs.put_polls.Given as goal
 
 abbrev pub invariant-loop-i : goal.invariant-loop-i

@@ -4,7 +4,6 @@ use mathlib.Core.Path.{sym, ap}
 use lib.ListN.{drop, length-drop}
 use Rattle.replay.specs.Format.{request_read}
 use Rattle.replay.proofs.Format.{request_short, request_tick, request_release, request_unknown}
-use borrow.Author.Rules.{rules}
 use Rattle.replay.proofs.read_call.Goals as goal
 
 pub returns-then-calls-at-lt6 : goal.returns-then-calls-at-lt6
@@ -22,7 +21,7 @@ unfolding request_read
 returns-then-kind-eq1 c =
     sym
     (ap request_read
-    (request_release c.args.calls.now c.args.at (omega arith) c.if-kind-eq2.false c.if-kind-eq1.true _ _ _ _ _ p.IsPlace-in.ensures c.wide-first.ensures.0 c.wide-second.ensures.0 c.wide-third.ensures.0 c.wide-fourth.ensures.0))
+    (request_release c.args.calls.now c.args.at (omega arith) c.if-kind-eq2.false c.if-kind-eq1.true _ _ _ _ _ c.place_in-place.ensures c.wide-first.ensures.0 c.wide-second.ensures.0 c.wide-third.ensures.0 c.wide-fourth.ensures.0))
 
 pub returns : goal.returns
 unfolding request_read
