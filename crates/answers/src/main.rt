@@ -4,12 +4,19 @@
 #![tactic(auto)]
 
 ghost use Rattle.std.specs.Prelude.{◌+◌, ◌*◌, ◌≡◌};
-ghost use Rattle.io.specs.Counts.{IsPrefixLen};
+ghost use Rattle.streams.specs.Counts.{IsPrefixLen};
 
-use libc::{STDIN_FILENO, STDOUT_FILENO};
+use std::io::{Stdin, Stdout};
+use streams::read_full;
 
 // A sheet's bytes past these do not count.
 const SHEET_ROOM: usize = 1024;
+
+// The room for the text of an answer.
+const ANSWER_ROOM: usize = 4096;
+
+// The room for a frame, whose length is below this.
+const FRAME_ROOM: usize = 65536;
 
 // The length that stands before a frame's bytes.
 fn frame_size(high: u8, low: u8) -> usize
@@ -29,31 +36,30 @@ fn used(sheet: &[u8]) -> usize
 }
 
 // Writes the frame of the answer to a sheet, and answers whether it was written.
-fn write_answer(sheet: &[u8]) -> bool {
-    let mut out = io::buffer();
+fn write_answer(output: Stdout, sheet: &[u8]) -> bool {
+    let mut out = [0u8; ANSWER_ROOM];
     let count = text::print_answer(sheet, &mut out);
     let head = [(count / 256 % 256) as u8, (count % 256) as u8];
-    let is_written = io::write_all(STDOUT_FILENO, &head);
-    if !is_written {
+    if output.write_all(&head).is_err() {
         return false;
     }
-    io::write_all(STDOUT_FILENO, &out[..count])
+    output.write_all(&out[..count]).is_ok()
 }
 
 // Fills the sheet, writes its answer, and answers whether to go on.
-fn answer_sheet(sheet: &mut [u8]) -> bool {
-    let got = io::read_full(STDIN_FILENO, sheet);
+fn answer_sheet(input: Stdin, output: Stdout, sheet: &mut [u8]) -> bool {
+    let got = read_full(input, sheet);
     if got < sheet.len() {
         return false;
     }
     let n = used(sheet);
-    write_answer(&sheet[..n])
+    write_answer(output, &sheet[..n])
 }
 
 // Reads one frame into the room, writes the frame of its answer, and answers whether to go on.
-fn answer_one(room: &mut [u8]) -> bool {
+fn answer_one(input: Stdin, output: Stdout, room: &mut [u8]) -> bool {
     let mut head = [0u8; 2];
-    let front = io::read_full(STDIN_FILENO, &mut head);
+    let front = read_full(input, &mut head);
     if front < 2 {
         return false;
     }
@@ -61,20 +67,19 @@ fn answer_one(room: &mut [u8]) -> bool {
     if room.len() < size {
         return false;
     }
-    answer_sheet(&mut room[..size])
+    answer_sheet(input, output, &mut room[..size])
 }
 
 // A proved loop has to end, and nothing says that the input does: so it counts its turns down, from a number
 // that no run uses up.
-fn answer_all(room: &mut [u8]) {
+fn answer_all(input: Stdin, output: Stdout, room: &mut [u8]) {
     let mut turns = u64::MAX;
-    while turns > 0 && answer_one(room) {
+    while turns > 0 && answer_one(input, output, room) {
         turns -= 1;
     }
 }
 
-// A frame's length is below the 65,536 bytes of the large buffer.
-fn main() {
-    let mut room = io::large_buffer();
-    answer_all(&mut room);
+fn main(rt: HostRuntime) {
+    let mut room = [0u8; FRAME_ROOM];
+    answer_all(rt.stdin(), rt.stdout(), &mut room);
 }

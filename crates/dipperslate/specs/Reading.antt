@@ -1,6 +1,6 @@
 -- The room for the input, and what was read: it lies within the room; of the bytes themselves nothing can be said.
 use Rattle.std.specs.Prelude.{◌≡◌, List, ℕ, take}
-use Rattle.io.specs.Counts.{IsPrefixLen}
+use Rattle.streams.specs.Counts.{IsPrefixLen}
 use Rattle.text.specs.Text.{text_of}
 use Rattle.dipperslate.specs.declared.Input.{Input}
 use Rattle.dipperslate.specs.declared.Input.TheVariants.{Bytes, Failed}

@@ -2,12 +2,12 @@
 #![tactic(auto)]
 
 ghost use Rattle.std.specs.Prelude.{◌≡◌, ◌≤◌, length, take};
-ghost use Rattle.io.specs.Counts.{IsPrefixLen};
+ghost use Rattle.streams.specs.Counts.{IsPrefixLen};
 ghost use Rattle.text.specs.Text.{text_of};
 ghost use Rattle.text.specs.Printed.{text_room};
 ghost use Rattle.dipperslate.specs.Reading.{input_room, Within};
 
-use libc::{STDIN_FILENO, STDOUT_FILENO};
+use std::io::{Error, Read, Stderr, Stdin, Stdout};
 
 // What was read: this many bytes, or nothing, since a read failed.
 #[derive(Clone, Copy)]
@@ -19,6 +19,9 @@ enum Input {
 // So many bytes of standard input are read, and no more.
 const INPUT_ROOM: usize = 1024;
 
+// The room for the text of the answer.
+const ANSWER_ROOM: usize = 4096;
+
 // The room for the input.
 fn room() -> [u8; INPUT_ROOM]
     ensures { length result ≡ input_room }
@@ -26,18 +29,25 @@ fn room() -> [u8; INPUT_ROOM]
     [0u8; INPUT_ROOM]
 }
 
-// Reads until the input is full or at its end, however the bytes arrive.
-fn read_input(input: &mut [u8]) -> Input
+// Says on the error stream what failed, and the system's words for it; where that fails too, nothing can be said.
+fn tell(errors: Stderr, what: &str, why: Error) {
+    let _ = eprintln!(errors; "{what}: {why}");
+}
+
+// Reads until the input is full or at its end, however the bytes arrive. A read that fails is told.
+fn read_input(mut from: Stdin, errors: Stderr, input: &mut [u8]) -> Input
     requires { length input.old ≡ input_room }
     ensures { Within result input.new }
 {
     let mut n: usize = 0;
     while n < input.len() {
-        let got = libc::read(STDIN_FILENO, &mut input[n..]);
-        if got < 0 {
-            return Input::Failed;
-        }
-        let more = io::count(got, &input[n..]);
+        let more = match from.read(&mut input[n..]) {
+            Ok(more) => more,
+            Err(why) => {
+                tell(errors, "standard input", why);
+                return Input::Failed;
+            }
+        };
         if more == 0 {
             return Input::Bytes(n);
         }
@@ -55,21 +65,21 @@ fn put_answer(sheet: &[u8], out: &mut [u8]) -> usize
 }
 
 // Prints the answer to a sheet.
-fn print(sheet: &[u8]) {
-    let mut out = io::buffer();
+fn print(output: Stdout, errors: Stderr, sheet: &[u8]) {
+    let mut out = [0u8; ANSWER_ROOM];
     let count = put_answer(sheet, &mut out);
-    let is_written = io::write_all(STDOUT_FILENO, &out[..count]);
-    if !is_written {
-        os::fail(b"standard output");
+    match output.write_all(&out[..count]) {
+        Ok(()) => {}
+        Err(why) => tell(errors, "standard output", why),
     }
 }
 
 // Where a read fails, the error stream says so and no answer is printed.
-fn main() {
+fn main(rt: HostRuntime) {
     let mut input = room();
-    let found = read_input(&mut input);
+    let found = read_input(rt.stdin(), rt.stderr(), &mut input);
     match found {
-        Input::Bytes(n) => print(&input[..n]),
-        Input::Failed => os::fail(b"standard input"),
+        Input::Bytes(n) => print(rt.stdout(), rt.stderr(), &input[..n]),
+        Input::Failed => {}
     }
 }

@@ -3,14 +3,21 @@
 // (1), C, D and T of each row in ticks (4 each), then the calls as docs/REPLAY.md says. It ends with the input.
 #![tactic(auto)]
 
-ghost use Rattle.io.specs.Counts.{IsPrefixLen};
+ghost use Rattle.streams.specs.Counts.{IsPrefixLen};
 
-use libc::{STDIN_FILENO, STDOUT_FILENO};
 use quantities::{Fault, Row, Table, Ticks};
 use replay::Replayed;
+use std::io::{Stdin, Stdout};
+use streams::read_full;
 
 // The most bytes that stand after the first byte of an answer's frame.
 const MOST_ANSWERS: usize = 65534;
+
+// The room for the answers to the calls of a history, so that a long one finds no room.
+const ANSWER_ROOM: usize = 4096;
+
+// The room for a frame, whose length is below this.
+const FRAME_ROOM: usize = 65536;
 
 // What was read of a row: it is cut where the input ends inside it.
 #[derive(Clone, Copy)]
@@ -46,9 +53,9 @@ fn rows_size(rows: u8) -> usize {
 }
 
 // Reads the twelve bytes of a row.
-fn read_row() -> ReadRow {
+fn read_row(input: Stdin) -> ReadRow {
     let mut bytes = [0u8; 12];
-    let got = io::read_full(STDIN_FILENO, &mut bytes);
+    let got = read_full(input, &mut bytes);
     if got < 12 {
         return ReadRow::Cut;
     }
@@ -60,11 +67,11 @@ fn read_row() -> ReadRow {
 }
 
 // Reads this many rows.
-fn read_table(rows: u8) -> ReadTable {
+fn read_table(input: Stdin, rows: u8) -> ReadTable {
     let mut table = Table::empty();
     let mut left = rows;
     while left > 0 {
-        let read = read_row();
+        let read = read_row(input);
         match read {
             ReadRow::Cut => {
                 return ReadTable {
@@ -95,105 +102,104 @@ fn used(bytes: &[u8], count: usize) -> usize
 }
 
 // All calls were answered: 0, then the answers.
-fn write_answers(answers: &[u8]) -> bool {
+fn write_answers(output: Stdout, answers: &[u8]) -> bool {
     let count = answers.len();
     if MOST_ANSWERS < count {
         return false;
     }
     let size = count + 1;
     let head = [(size / 256 % 256) as u8, (size % 256) as u8, 0];
-    let is_written = io::write_all(STDOUT_FILENO, &head);
-    if !is_written {
+    if output.write_all(&head).is_err() {
         return false;
     }
-    io::write_all(STDOUT_FILENO, answers)
+    output.write_all(answers).is_ok()
 }
 
 // No bench was opened: 1, then the fault's number and place.
-fn write_fault(number: u32, place: usize) -> bool {
+fn write_fault(output: Stdout, number: u32, place: usize) -> bool {
     let frame = [0, 3, 1, (number % 256) as u8, (place % 256) as u8];
-    io::write_all(STDOUT_FILENO, &frame)
+    output.write_all(&frame).is_ok()
 }
 
 // The calls were not all answered: the kind of ending, then the place of the call.
-fn write_place(kind: u8, place: usize) -> bool {
+fn write_place(output: Stdout, kind: u8, place: usize) -> bool {
     let frame = [0, 3, kind, (place / 256 % 256) as u8, (place % 256) as u8];
-    io::write_all(STDOUT_FILENO, &frame)
+    output.write_all(&frame).is_ok()
 }
 
-fn write_done(out: &[u8], count: usize) -> bool {
+fn write_done(output: Stdout, out: &[u8], count: usize) -> bool {
     let n = used(out, count);
-    write_answers(&out[..n])
+    write_answers(output, &out[..n])
 }
 
-fn write_ending(ending: Replayed, out: &[u8]) -> bool {
+fn write_ending(output: Stdout, ending: Replayed, out: &[u8]) -> bool {
     match ending {
-        Replayed::Done(count) => write_done(out, count),
+        Replayed::Done(count) => write_done(output, out, count),
         Replayed::NotOpened(fault) => {
             match fault {
-                Fault::WholeList(number) => write_fault(number, 0),
-                Fault::OneRow(number, place) => write_fault(number, place),
+                Fault::WholeList(number) => write_fault(output, number, 0),
+                Fault::OneRow(number, place) => write_fault(output, number, place),
             }
         }
-        Replayed::NotACall(place) => write_place(2, place),
-        Replayed::NoRoom(place) => write_place(3, place),
+        Replayed::NotACall(place) => write_place(output, 2, place),
+        Replayed::NoRoom(place) => write_place(output, 3, place),
     }
 }
 
-// Runs the calls on a new bench. The answers have 4,096 bytes, so that a long history finds no room.
-fn run(cores: u32, table: Table, calls: &[u8]) -> bool {
-    let mut out = io::buffer();
+// Runs the calls on a new bench.
+fn run(output: Stdout, cores: u32, table: Table, calls: &[u8]) -> bool {
+    let mut out = [0u8; ANSWER_ROOM];
     let ending = replay::replay(cores, table, calls, &mut out);
-    write_ending(ending, &out)
+    write_ending(output, ending, &out)
 }
 
 // Fills the calls, runs them, and answers whether to go on.
-fn run_calls(cores: u32, table: Table, calls: &mut [u8]) -> bool {
-    let got = io::read_full(STDIN_FILENO, calls);
+fn run_calls(input: Stdin, output: Stdout, cores: u32, table: Table, calls: &mut [u8]) -> bool {
+    let got = read_full(input, calls);
     if got < calls.len() {
         return false;
     }
-    run(cores, table, &calls[..got])
+    run(output, cores, table, &calls[..got])
 }
 
 // The frame is too short for its rows: it is passed over and answered by 4.
-fn pass_over(frame: &mut [u8]) -> bool {
-    let got = io::read_full(STDIN_FILENO, frame);
+fn pass_over(input: Stdin, output: Stdout, frame: &mut [u8]) -> bool {
+    let got = read_full(input, frame);
     if got < frame.len() {
         return false;
     }
-    io::write_all(STDOUT_FILENO, b"\x00\x01\x04")
+    output.write_all(b"\x00\x01\x04").is_ok()
 }
 
 // Reads the rows of a history, then its calls.
-fn answer_rows(cores: u8, rows: u8, calls: &mut [u8]) -> bool {
-    let read = read_table(rows);
+fn answer_rows(input: Stdin, output: Stdout, cores: u8, rows: u8, calls: &mut [u8]) -> bool {
+    let read = read_table(input, rows);
     if !read.is_whole {
         return false;
     }
-    run_calls(wide(cores), read.table, calls)
+    run_calls(input, output, wide(cores), read.table, calls)
 }
 
 // Reads a frame that has bytes for cores and rows, and `rest` bytes after them.
-fn answer_history(rest: usize, room: &mut [u8]) -> bool {
+fn answer_history(input: Stdin, output: Stdout, rest: usize, room: &mut [u8]) -> bool {
     let mut front = [0u8; 2];
-    let got = io::read_full(STDIN_FILENO, &mut front);
+    let got = read_full(input, &mut front);
     if got < 2 || room.len() < rest {
         return false;
     }
     let taken = rows_size(front[1]);
     if rest < taken {
         let passed = used(room, rest);
-        return pass_over(&mut room[..passed]);
+        return pass_over(input, output, &mut room[..passed]);
     }
     let left = used(room, rest - taken);
-    answer_rows(front[0], front[1], &mut room[..left])
+    answer_rows(input, output, front[0], front[1], &mut room[..left])
 }
 
 // Reads one frame, writes the frame of its answer, and answers whether to go on.
-fn answer_one(room: &mut [u8]) -> bool {
+fn answer_one(input: Stdin, output: Stdout, room: &mut [u8]) -> bool {
     let mut head = [0u8; 2];
-    let front = io::read_full(STDIN_FILENO, &mut head);
+    let front = read_full(input, &mut head);
     if front < 2 {
         return false;
     }
@@ -203,22 +209,21 @@ fn answer_one(room: &mut [u8]) -> bool {
     }
     if size < 2 {
         let passed = used(room, size);
-        return pass_over(&mut room[..passed]);
+        return pass_over(input, output, &mut room[..passed]);
     }
-    answer_history(size - 2, room)
+    answer_history(input, output, size - 2, room)
 }
 
 // A proved loop has to end, and nothing says that the input does: so it counts its turns down, from a number that no
 // run uses up.
-fn answer_all(room: &mut [u8]) {
+fn answer_all(input: Stdin, output: Stdout, room: &mut [u8]) {
     let mut turns = u64::MAX;
-    while turns > 0 && answer_one(room) {
+    while turns > 0 && answer_one(input, output, room) {
         turns -= 1;
     }
 }
 
-// A frame's length is below the 65,536 bytes of the large buffer.
-fn main() {
-    let mut room = io::large_buffer();
-    answer_all(&mut room);
+fn main(rt: HostRuntime) {
+    let mut room = [0u8; FRAME_ROOM];
+    answer_all(rt.stdin(), rt.stdout(), &mut room);
 }

@@ -2,15 +2,16 @@
 #![tactic(auto)]
 
 ghost use Rattle.std.specs.Prelude.{◌≡◌, ◌≤◌, length};
-ghost use Rattle.io.specs.Counts.{IsPrefixLen};
+ghost use Rattle.streams.specs.Counts.{IsPrefixLen};
 ghost use Rattle.bench.specs.History.{after};
 ghost use Rattle.bench.specs.Step.{released_of, ticked_of, release, tick};
 ghost use Rattle.lentbench.specs.Lent.{ticks_for};
 
 use bench::{Bench, Outcome, Released, Ticked};
-use libc::STDIN_FILENO;
 use quantities::Ticks;
 use reading::{bench_in, eight_at, two};
+use std::io::{Stdin, Stdout};
+use streams::read_full;
 use writing::{write_bench, write_outcome, write_polls};
 
 mod reading;
@@ -27,6 +28,9 @@ const BENCH_SIZE: usize = 1582;
 
 // The bytes of a call: its kind (1), a place and a demand (8 each). A frame is a bench and calls after it.
 const CALL_SIZE: usize = 17;
+
+// The room for a frame, whose length is below this.
+const FRAME_ROOM: usize = 65536;
 
 // The kinds of call that are no tick.
 const RELEASE: u8 = 1;
@@ -74,48 +78,48 @@ fn lend_run(bench: Bench, ticks: Ticks) -> Bench
     lent
 }
 
-fn run_release(bench: Bench, place: usize, demand: Ticks) -> Ran {
+fn run_release(output: Stdout, bench: Bench, place: usize, demand: Ticks) -> Ran {
     let released = lend_release(bench, place, demand);
     let outcome = released.outcome;
     let left = released.bench;
     Ran {
-        is_written: write_outcome(outcome, 0),
+        is_written: write_outcome(output, outcome, 0),
         bench: left,
     }
 }
 
-fn run_tick(bench: Bench) -> Ran {
+fn run_tick(output: Stdout, bench: Bench) -> Ran {
     let ticked = lend_tick(bench);
     let outcome = ticked.outcome;
     let polls = ticked.finishes;
     let left = ticked.bench;
     Ran {
-        is_written: write_outcome(outcome, polls.count) && write_polls(polls),
+        is_written: write_outcome(output, outcome, polls.count) && write_polls(output, polls),
         bench: left,
     }
 }
 
-fn run_ticks(bench: Bench, ticks: Ticks) -> Ran {
+fn run_ticks(output: Stdout, bench: Bench, ticks: Ticks) -> Ran {
     let left = lend_run(bench, ticks);
     Ran {
-        is_written: write_outcome(Outcome::Taken, 0),
+        is_written: write_outcome(output, Outcome::Taken, 0),
         bench: left,
     }
 }
 
 // A kind that no other call has is a tick, which looks at no place and no demand.
-fn run_call(bench: Bench, kind: u8, place: u64, demand: u64) -> Ran {
+fn run_call(output: Stdout, bench: Bench, kind: u8, place: u64, demand: u64) -> Ran {
     if kind == RELEASE {
-        return run_release(bench, place as usize, Ticks(demand));
+        return run_release(output, bench, place as usize, Ticks(demand));
     }
     if kind == RUN {
-        return run_ticks(bench, Ticks(demand));
+        return run_ticks(output, bench, Ticks(demand));
     }
-    run_tick(bench)
+    run_tick(output, bench)
 }
 
 // The calls that stand after the bench of a frame, one after the other.
-fn run_calls(opened: Bench, frame: &[u8]) -> Ran
+fn run_calls(output: Stdout, opened: Bench, frame: &[u8]) -> Ran
     requires { 1582 ≤ length frame.now }
 {
     let mut bench = opened;
@@ -123,7 +127,7 @@ fn run_calls(opened: Bench, frame: &[u8]) -> Ran
     while frame.len() - at >= CALL_SIZE {
         let place = eight_at(frame, at + 1);
         let demand = eight_at(frame, at + 9);
-        let ran = run_call(bench, frame[at], place, demand);
+        let ran = run_call(output, bench, frame[at], place, demand);
         if !ran.is_written {
             return ran;
         }
@@ -137,16 +141,16 @@ fn run_calls(opened: Bench, frame: &[u8]) -> Ran
 }
 
 // Runs a whole frame, and answers whether all could be written.
-fn run_frame(frame: &[u8]) -> bool
+fn run_frame(output: Stdout, frame: &[u8]) -> bool
     requires { 1582 ≤ length frame.now }
 {
     let bench = bench_in(frame);
-    let ran = run_calls(bench, frame);
+    let ran = run_calls(output, bench, frame);
     if !ran.is_written {
         return false;
     }
     let left = ran.bench;
-    write_bench(left)
+    write_bench(output, left)
 }
 
 // So many of the bytes, or all where there are fewer.
@@ -160,8 +164,8 @@ fn used(bytes: &[u8], count: usize) -> usize
 }
 
 // Fills a frame and runs it if it is whole, and answers whether to go on.
-fn answer_frame(frame: &mut [u8]) -> bool {
-    let got = io::read_full(STDIN_FILENO, frame);
+fn answer_frame(input: Stdin, output: Stdout, frame: &mut [u8]) -> bool {
+    let got = read_full(input, frame);
     if got < frame.len() {
         return false;
     }
@@ -171,31 +175,30 @@ fn answer_frame(frame: &mut [u8]) -> bool {
     if (got - BENCH_SIZE) % CALL_SIZE > 0 {
         return false;
     }
-    run_frame(&frame[..got])
+    run_frame(output, &frame[..got])
 }
 
 // Reads one frame, writes its answers, and answers whether to go on.
-fn answer_one(room: &mut [u8]) -> bool {
+fn answer_one(input: Stdin, output: Stdout, room: &mut [u8]) -> bool {
     let mut head = [0u8; 2];
-    let front = io::read_full(STDIN_FILENO, &mut head);
+    let front = read_full(input, &mut head);
     if front < 2 {
         return false;
     }
     let size = used(room, two(head[0], head[1]));
-    answer_frame(&mut room[..size])
+    answer_frame(input, output, &mut room[..size])
 }
 
 // A proved loop has to end, and nothing says that the input does: so it counts its turns down, from a number that no
 // run uses up.
-fn answer_all(room: &mut [u8]) {
+fn answer_all(input: Stdin, output: Stdout, room: &mut [u8]) {
     let mut turns = u64::MAX;
-    while turns > 0 && answer_one(room) {
+    while turns > 0 && answer_one(input, output, room) {
         turns -= 1;
     }
 }
 
-// A frame's length is below the 65,536 bytes of the large buffer.
-fn main() {
-    let mut room = io::large_buffer();
-    answer_all(&mut room);
+fn main(rt: HostRuntime) {
+    let mut room = [0u8; FRAME_ROOM];
+    answer_all(rt.stdin(), rt.stdout(), &mut room);
 }

@@ -3,8 +3,8 @@ ghost use Rattle.std.specs.Prelude.{◌+◌, ◌≤◌, length};
 
 use crate::{BENCH_SIZE, ENTRY_SIZE, HEAD_SIZE};
 use bench::{Bench, Finish, Finishes, Last, Outcome, Refusal, RowState};
-use libc::STDOUT_FILENO;
 use quantities::{Row, Table};
+use std::io::Stdout;
 
 // The lowest byte of a number.
 fn low_byte(number: u64) -> u8 {
@@ -69,13 +69,13 @@ fn put_entries(out: &mut [u8], bench: Bench)
     }
 }
 
-pub fn write_bench(bench: Bench) -> bool {
+pub fn write_bench(output: Stdout, bench: Bench) -> bool {
     let mut out = [0u8; BENCH_SIZE];
     put(&mut out, 0, 4, bench.cores as u64);
     put(&mut out, 4, 8, bench.now.0);
     put(&mut out, 12, 2, wide(bench.table.count));
     put_entries(&mut out, bench);
-    io::write_all(STDOUT_FILENO, &out)
+    output.write_all(&out).is_ok()
 }
 
 // The number that answers a call: 0 where it was taken.
@@ -109,29 +109,29 @@ fn place_of(outcome: Outcome) -> usize {
 }
 
 // The outcome of a call, and how many polls ended.
-pub fn write_outcome(outcome: Outcome, ended: usize) -> bool {
+pub fn write_outcome(output: Stdout, outcome: Outcome, ended: usize) -> bool {
     let mut out = [0u8; 10];
     out[0] = number_of(outcome);
     out[9] = place_byte(ended);
     put(&mut out, 1, 8, wide(place_of(outcome)));
-    io::write_all(STDOUT_FILENO, &out)
+    output.write_all(&out).is_ok()
 }
 
-fn write_poll(poll: Finish) -> bool {
+fn write_poll(output: Stdout, poll: Finish) -> bool {
     let mut out = [0u8; 9];
     out[0] = place_byte(poll.place);
     put(&mut out, 1, 8, poll.response.0);
-    io::write_all(STDOUT_FILENO, &out)
+    output.write_all(&out).is_ok()
 }
 
-pub fn write_polls(polls: Finishes) -> bool {
+pub fn write_polls(output: Stdout, polls: Finishes) -> bool {
     let mut i: usize = 0;
     while i < Table::ROW_CAPACITY {
         if polls.count <= i {
             return true;
         }
         let poll = polls.list[i];
-        if !write_poll(poll) {
+        if !write_poll(output, poll) {
             return false;
         }
         i += 1;

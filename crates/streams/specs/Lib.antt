@@ -1,0 +1,2 @@
+-- How many bytes of a buffer count.
+pub mod Counts
