@@ -7,7 +7,6 @@ use mathlib.Core.List.{List, [], ◌++◌, append-nil}
 use lib.ListN.{length, drop, length-append}
 use Rattle.laws.specs.Permuted.{Permuted, as_is, keep, swap, both}
 use Rattle.laws.proofs.Permuted.{permuted_back, permuted_length, permuted_each}
-use Rattle.quantities.specs.declared.Micros.{Micros}
 use Rattle.records.specs.Records.{cores_on, tick_on, row_fields, record_on, size_on, is_end, RowRecord}
 use Rattle.records.specs.declared.Record.{Record}
 use Rattle.records.proofs.Parts.{board_long, end_long}

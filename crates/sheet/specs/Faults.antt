@@ -4,7 +4,7 @@ use Rattle.laws.specs.Each.{Each}
 use Rattle.laws.specs.Permuted.{Permuted}
 use Rattle.laws.specs.Checks.{Check, FirstFailing}
 use Rattle.quantities.specs.Paper.{Paper, paper}
-use Rattle.records.specs.Records.{board_kind, tick_on, record_on, size_on, is_end, OneRecord, RowRecord}
+use Rattle.records.specs.Records.{board_kind, record_on, size_on, is_end, OneRecord, RowRecord}
 use Rattle.entries.specs.Entries.{entries_of}
 use Rattle.sheet.specs.Whole.{joined, entries_on}
 use Rattle.records.specs.declared.Record.{Record}
