@@ -18,7 +18,7 @@ use Rattle.windows.specs.Answer.{Judged, verdict}
 use Rattle.windows.proofs.Judgement.{judged_sound}
 use Rattle.bench.specs.declared.Bench.{Bench}
 use Rattle.bench.specs.declared.Finish.{Finish}
-use Rattle.bench.specs.Serving.{workers, ends}
+use Rattle.bench.specs.Serving.{workers}
 use Rattle.bench.specs.Fakes.{idled, once, invented, inventing}
 use Rattle.bench.specs.Step.{Step, empty_bench, opened}
 use Rattle.bench.specs.History.{Call, releases, ticks, do_call, after, steps}
@@ -27,6 +27,7 @@ use Rattle.bench.specs.Computing.{bench_computes}
 use Rattle.running.specs.Running.{bounds_of, bound_at, OverInTime, EndsInTime, NotUnfinished}
 use Rattle.running.specs.Parts.{
   Parts,
+  parts,
   carry_by,
   load_by,
   loads_by,
@@ -35,6 +36,7 @@ use Rattle.running.specs.Parts.{
   after_by,
   InTime,
   ours,
+  with_tick,
   idling,
   early,
   HoldsForOurs,
@@ -196,13 +198,13 @@ pub each_part_needed : EachPartNeeded
 unfolding answers_compute bench_computes workers idled once invented inventing idling early after_by carry_by passes_by
     bounds_by
 each_part_needed =
-    late _ carries_in 4 4 (1 ∷ 1 ∷ 3 ∷ 4 ∷ []) [] refl refl (omega arith) (omega arith) (omega arith)
-    & late _ carries_in 4 4 (1 ∷ 1 ∷ 2 ∷ 1 ∷ []) [] refl refl (omega arith) (omega arith) (omega arith)
-    & late _ carries_in 4 4 (1 ∷ 1 ∷ 3 ∷ 3 ∷ []) [] refl refl (omega arith) (omega arith) (omega arith)
-    & late _ carries_in 4 4 (1 ∷ 1 ∷ 3 ∷ 3 ∷ []) [] refl refl (omega arith) (omega arith) (omega arith)
-    & late _ one_alone 1 2 (1 ∷ 1 ∷ 3 ∷ 4 ∷ []) (poll 4 1 ∷ []) refl refl (omega arith) (omega arith) (omega arith)
-    & late _ too_soon_lem 3 4 (1 ∷ 1 ∷ 3 ∷ 4 ∷ []) [] refl refl (omega arith) (omega arith) (omega arith)
-    & unfinished _ left_alone 3 (1 ∷ 1 ∷ 3 ∷ 4 ∷ []) refl (omega arith) (omega arith)
+    late (parts (λ own x. x - own + 1) (λ M. M - 1) (λ c. c - 1) (λ bound. bound - 1) do_call) carries_in 4 4 (1 ∷ 1 ∷ 3 ∷ 4 ∷ []) [] refl refl (omega arith) (omega arith) (omega arith)
+    & late (parts (λ own x. x - own) (λ M. M - 1) (λ c. c - 1) (λ bound. bound) do_call) carries_in 4 4 (1 ∷ 1 ∷ 2 ∷ 1 ∷ []) [] refl refl (omega arith) (omega arith) (omega arith)
+    & late (parts (λ own x. x - own + 1) (λ M. M - 2) (λ c. c - 1) (λ bound. bound) do_call) carries_in 4 4 (1 ∷ 1 ∷ 3 ∷ 3 ∷ []) [] refl refl (omega arith) (omega arith) (omega arith)
+    & late (parts (λ own x. x - own + 1) (λ M. M - 1) (λ c. c - 2) (λ bound. bound) do_call) carries_in 4 4 (1 ∷ 1 ∷ 3 ∷ 3 ∷ []) [] refl refl (omega arith) (omega arith) (omega arith)
+    & late (parts (λ own x. x - own + 1) (λ M. M - 1) (λ c. c - 1) (λ bound. bound) (with_tick idling)) one_alone 1 2 (1 ∷ 1 ∷ 3 ∷ 4 ∷ []) (poll 4 1 ∷ []) refl refl (omega arith) (omega arith) (omega arith)
+    & late (parts (λ own x. x - own + 1) (λ M. M - 1) (λ c. c - 1) (λ bound. bound) early) too_soon_lem 3 4 (1 ∷ 1 ∷ 3 ∷ 4 ∷ []) [] refl refl (omega arith) (omega arith) (omega arith)
+    & unfinished (parts (λ own x. x - own + 1) (λ M. M - 1) (λ c. c - 1) (λ bound. bound) (with_tick once)) left_alone 3 (1 ∷ 1 ∷ 3 ∷ 4 ∷ []) refl (omega arith) (omega arith)
     (λ over. let low : 3 < 3 = over (omega arith) in omega arith)
-    & late _ later_release 1 2 (1 ∷ 1 ∷ 3 ∷ 4 ∷ []) [] refl refl (omega arith) (omega arith) (omega arith)
+    & late (parts (λ own x. x - own + 1) (λ M. M - 1) (λ c. c - 1) (λ bound. bound) (with_tick inventing)) later_release 1 2 (1 ∷ 1 ∷ 3 ∷ 4 ∷ []) [] refl refl (omega arith) (omega arith) (omega arith)
     & tt

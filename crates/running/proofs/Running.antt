@@ -21,7 +21,7 @@ use Rattle.bench.specs.declared.Last.TheVariants.{Never, At}
 use Rattle.bench.specs.declared.Bench.{Bench}
 use Rattle.bench.specs.declared.Refusal.{Refusal}
 use Rattle.bench.specs.declared.Refusal.TheVariants.{Unfinished}
-use Rattle.bench.specs.State.{rows, row_at, state_at}
+use Rattle.bench.specs.State.{row_at, state_at}
 use Rattle.bench.specs.Refusal.{refusal_paper, outcome_paper}
 use Rattle.bench.specs.Serving.{units, finished}
 use Rattle.bench.specs.Step.{Step, served, taken, empty_bench}

@@ -1,5 +1,5 @@
 -- The parts that demand 3 rests on, left open: the promise as a statement about any choice of them.
-use Rattle.std.specs.Prelude.{ℕ, suc, ◌+◌, ◌-◌, ◌*◌, ◌/◌, ◌%◌, ◌≤◌, min, ◌≡◌, Bool, true, false, List, [], ◌∷◌, ltb, length, take}
+use Rattle.std.specs.Prelude.{ℕ, ◌+◌, ◌-◌, ◌*◌, ◌/◌, ◌%◌, ◌≤◌, min, ◌≡◌, Bool, true, false, List, [], ◌∷◌, ltb, length, take}
 use Rattle.std.proofs.Math.Option.{none, some}
 use Rattle.laws.specs.Checks.{first_failing}
 use Rattle.laws.specs.Each.{Each}
