@@ -1,4 +1,5 @@
-//! The analysis for callers in C: rows as triples of numbers, bounds into a lent list, the answer as one number.
+//! The analysis for callers in C: rows as triples of numbers, bounds into a lent list, the answer as one number. The crate
+//! exports_c gives it the symbol and the call of C.
 #![tactic(auto)]
 
 ghost use Rattle.std.specs.Prelude.{◌≡◌, ◌≤◌, ◌<◌, length};
@@ -80,8 +81,7 @@ fn write_bounds(told: Told, bounds: &mut [u64])
 }
 
 // The answer to a list of rows on a board with this many cores, with the bounds in the first entries of the lent list.
-#[unsafe(no_mangle)]
-pub extern "C" fn dipperslate_analyse(cores: u32, rows: &[[u64; 3]], bounds: &mut [u64]) -> u64
+pub fn dipperslate_analyse(cores: u32, rows: &[[u64; 3]], bounds: &mut [u64]) -> u64
     ensures { Exported (judged_into cores (length bounds.old) (rows_from rows.now))
         bounds.old bounds.new result }
 {

@@ -18,9 +18,7 @@ use Rattle.exports.specs.Exported.{rows_from, code_of, FitsCode, Exported}
 use Rattle.lentrows.proofs.Loaded.{into_loaded}
 use Rattle.lentrows.proofs.Written.{told_fits, told_written}
 use Rattle.exports.proofs.Places.{into_place, loaded_count}
-use borrow.Author.Rules.{rules}
-use Rattle.exports.proofs.dipperslate_analyse.Statement.{statement}
-use Rattle.exports.proofs.dipperslate_analyse.Tie as tie
+use Rattle.exports.proofs.dipperslate_analyse.Goals as goal
 
 module _ (cores entries : ℕ) (rows : List Row) (table : Table) (loads : table ≡ loaded_table rows) where
   -- the table's answer is the rows' answer
@@ -49,46 +47,23 @@ told_answer : (j : Judged) (told : Told) → told ≡ told_of j → told.answer 
 unfolding told_of
 told_answer j told e = ap (λ (t : Told). t.answer) e
 
-load_requires : tie.Need-load-requires
-load_requires c κs = search rules
+pub write_bounds-requires : goal.write_bounds-requires
+write_bounds-requires c =
+    let load = c.load-table in
+    let told = c.answer_for-told in
+    told_fits c.args.cores (length c.args.bounds.now) (rows_of load.result) told.result told.ensures
 
-answer_for_requires : tie.Need-answer-for-requires
-answer_for_requires c κs = search rules
-
-write_bounds_requires : tie.Need-write-bounds-requires
-write_bounds_requires c κs =
-    let a = c.before.before.before.before.args in
-    let load = c.before.before.load in
-    let told = c.before.answer-for in
-    told_fits a.cores (length a.bounds.now) (rows_of load.result) told.result told.ensures
-
-code_of_requires : tie.Need-code-of-requires
-code_of_requires c κs =
-    let told = c.before.before.before.before.answer-for in
-    let load = c.before.before.before.before.before.load in
-    let a = c.before.before.before.before.before.before.before.args in
-    answer_fits a.cores (length a.bounds.now) (rows_from a.rows.now) _ load.ensures
+pub code_of-requires : goal.code_of-requires
+code_of-requires c =
+    let told = c.answer_for-told in
+    let load = c.load-table in
+    answer_fits c.args.cores (length c.args.bounds.now) (rows_from c.args.rows.now) _ load.ensures
     _ (told_answer _ _ told.ensures)
 
-same_length : tie.Need-same-length
-same_length c = search rules
-
-returns : tie.Need-returns
+pub returns : goal.returns
 returns c =
-    let wrote = c.before.before.before.write-bounds in
-    let told = c.before.before.before.before.before.answer-for in
-    let load = c.before.before.before.before.before.before.load in
-    let a = c.before.before.before.before.before.before.before.before.args in
-    exported a.cores (length a.bounds.now) (rows_from a.rows.now) _ load.ensures
-    _ told.ensures _ _ wrote.ensures _ c.code_of_lem.ensures
-
-pub dipperslate_analyse_spec : {M : Type 1} → statement M
-dipperslate_analyse_spec =
-    tie.close
-    (tie.spec
-    load_requires
-    answer_for_requires
-    write_bounds_requires
-    code_of_requires
-    same_length
-    returns)
+    let wrote = c.write_bounds in
+    let told = c.answer_for-told in
+    let load = c.load-table in
+    exported c.args.cores (length c.args.bounds.now) (rows_from c.args.rows.now) _ load.ensures
+    _ told.ensures _ _ wrote.ensures _ c.code_of.ensures

@@ -8,9 +8,7 @@ use Rattle.windows.specs.Answer.{answer_paper}
 use Rattle.windows.specs.declared.Answer.{Answer}
 use Rattle.windows.specs.declared.Answer.TheVariants.{Shown, NotShown, Refused}
 use Rattle.exports.specs.Exported.{place_limit, coded, code_of, FitsCode}
-use borrow.Author.Rules.{rules}
-use Rattle.exports.proofs.code_of.Statement.{statement}
-use Rattle.exports.proofs.code_of.Tie as tie
+use Rattle.exports.proofs.code_of.Goals as goal
 
 -- the place of each case fits where the answer's does
 module _ (answer : Answer) (fits : FitsCode answer) where
@@ -43,62 +41,24 @@ module _ (answer : Answer) (r : ℕ) where
   unfolding answer_paper fault_paper
   one_row_code number place e is = rw e is
 
-enum_told : tie.Need-enum-told
-enum_told c = search rules
+pub code-requires : goal.code-requires
+code-requires c = not_shown_fits _ c.requires _ _ c.in-NotShown.is
 
-enum_known_answer : tie.Need-enum-known-answer
-enum_known_answer c = search rules
-
-code_requires : tie.Need-code-requires
-code_requires c κs = not_shown_fits _ c.before.before.before.requires _ _ c.before.answer.given.1
-
-enum_known_answer_2 : tie.Need-enum-known-answer-2
-enum_known_answer_2 c = search rules
-
-enum_known_fault : tie.Need-enum-known-fault
-enum_known_fault c = search rules
-
-code_requires_2 : tie.Need-code-requires-2
-code_requires_2 c κs = search rules
-
-enum_known_fault_2 : tie.Need-enum-known-fault-2
-enum_known_fault_2 c = search rules
-
-code_requires_3 : tie.Need-code-requires-3
-code_requires_3 c κs =
-    let answer = c.before.before.before.before in
-    let fits = one_row_fits _ answer.before.before.requires _ _ (answer.answer2.given.1 ∙ ap Refused c.before.fault2.given.1) in
+pub code-requires-in-OneRow : goal.code-requires-in-OneRow
+code-requires-in-OneRow c =
+    let fits = one_row_fits _ c.requires _ _ (c.in-Refused.is ∙ ap Refused c.in-OneRow.is) in
     omega (arith, fits)
 
-returns : tie.Need-returns
-returns c = shown_code _ 0 c.enum_told.given.1 refl
+pub returns-in-Shown : goal.returns-in-Shown
+returns-in-Shown c = shown_code _ 0 c.in-Shown.is refl
 
-returns_2 : tie.Need-returns-2
-returns_2 c = not_shown_code _ _ _ _ c.before.before.answer.given.1 c.code.ensures
+pub returns-in-NotShown : goal.returns-in-NotShown
+returns-in-NotShown c = not_shown_code _ _ _ _ c.in-NotShown.is c.code.ensures
 
-returns_3 : tie.Need-returns-3
-returns_3 c =
-    let answer = c.before.before.before.before.before in
-    whole_list_code _ _ _ (answer.answer2.given.1 ∙ ap Refused c.before.before.fault.given.1) c.code2.ensures
+pub returns-in-WholeList : goal.returns-in-WholeList
+returns-in-WholeList c =
+    whole_list_code _ _ _ (c.in-Refused.is ∙ ap Refused c.in-WholeList.is) c.code-in-WholeList.ensures
 
-returns_4 : tie.Need-returns-4
-returns_4 c =
-    let answer = c.before.before.before.before.before in
-    one_row_code _ _ _ _ (answer.answer2.given.1 ∙ ap Refused c.before.before.fault2.given.1) c.code3.ensures
-
-pub code_of_spec : {M : Type 1} → statement M
-code_of_spec =
-    tie.close
-    (tie.spec
-    enum_told
-    enum_known_answer
-    code_requires
-    enum_known_answer_2
-    enum_known_fault
-    code_requires_2
-    enum_known_fault_2
-    code_requires_3
-    returns
-    returns_2
-    returns_3
-    returns_4)
+pub returns-in-OneRow : goal.returns-in-OneRow
+returns-in-OneRow c =
+    one_row_code _ _ _ _ (c.in-Refused.is ∙ ap Refused c.in-OneRow.is) c.code-in-OneRow.ensures
