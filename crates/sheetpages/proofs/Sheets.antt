@@ -17,7 +17,6 @@ use Rattle.laws.proofs.Lists.{each_at}
 use Rattle.laws.proofs.Permuted.{permuted_back}
 use Rattle.laws.specs.Checks.{first_failing}
 use Rattle.quantities.specs.Paper.{Paper, paper}
-use Rattle.quantities.specs.Checks.{check}
 use Rattle.quantities.specs.Table.{rows_of, empty_table, with_row}
 use Rattle.quantities.specs.declared.Table.{Table}
 use Rattle.laws.proofs.Checks.{none_fails, first_failing_lem, failing_behind}
