@@ -1,4 +1,4 @@
-/* The functions that the static library of the crate exports has for C. */
+/* The functions that the static library of the crate exports_c has for C. */
 #ifndef DIPPERSLATE_H
 #define DIPPERSLATE_H
 
