@@ -2,7 +2,6 @@
 use Prim.Native.Nat.{ℕ, zero, suc}
 use native.Mathlib.Omega.{arith}
 use mathlib.Core.Path.{◌≡◌, refl, ap, ◌∙◌}
-use mathlib.Core.Bool.{Bool}
 use mathlib.Core.List.{List, [], ◌∷◌, ◌++◌}
 use mathlib.Core.Option.{Option, none, some}
 use Rattle.laws.proofs.Lists.{each_map}
@@ -12,7 +11,7 @@ use Rattle.quantities.specs.declared.Fault.{Fault}
 use Rattle.quantities.specs.Row.{SoundRow, row_of}
 use Rattle.quantities.specs.Paper.{Paper, paper, fault_paper}
 use Rattle.laws.specs.Checks.{Check, first_failing, FirstFailing}
-use Rattle.quantities.specs.Checks.{check, row_checks, rows_checks, list_checks, room_checks, fault_from}
+use Rattle.quantities.specs.Checks.{row_checks, rows_checks, list_checks, room_checks, fault_from}
 use Rattle.quantities.specs.Checks.{is_last, SoundList, list_fault}
 use Rattle.laws.proofs.Checks.{first_found}
 use Rattle.quantities.proofs.Sound.{sound_list_means}
