@@ -12,7 +12,6 @@ use Rattle.laws.specs.Each.{Each}
 use Rattle.laws.proofs.Lists.{each_map}
 use Rattle.quantities.specs.declared.Table.{Table}
 use Rattle.quantities.specs.Table.{rows_of}
-use Rattle.quantities.specs.Paper.{Paper}
 use Rattle.laws.proofs.Checks.{first_found, told_has}
 use Rattle.quantities.proofs.Sound.{sound_list_means}
 use Rattle.bench.specs.declared.Bench.{Bench}

@@ -23,7 +23,7 @@ use Rattle.bench.specs.declared.Outcome.TheVariants.{Taken, Refused}
 use Rattle.bench.specs.State.{broken}
 use Rattle.bench.specs.Refusal.{too_soon, refusal_paper, outcome_paper}
 use Rattle.bench.specs.Step.{Step, release}
-use Rattle.bench.specs.History.{Call, releases, ticks, do_call, after}
+use Rattle.bench.specs.History.{Call, releases, ticks, do_call}
 use Rattle.bench.specs.Rules.{call_checks, TurnedAway}
 use Rattle.bench.proofs.Rules.{refused_unchanged}
 use Rattle.bench.proofs.Rules.{release_checks, tick_checks, call_turned_away as by_checks}

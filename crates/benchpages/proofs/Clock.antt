@@ -1,5 +1,5 @@
 -- The clock of a bench counts the ticks among its calls, up to its end.
-use Prim.Native.Nat.{ℕ, suc, ◌+◌, ◌-◌, ◌≤◌, min}
+use Prim.Native.Nat.{ℕ, suc, ◌+◌, ◌≤◌, min}
 use native.Mathlib.Decide.{dec_le}
 use native.Mathlib.Omega.{arith}
 use mathlib.Core.Path.{◌≡◌, refl}
