@@ -106,7 +106,7 @@ rows_set now (row ∷ rest) (s ∷ states) (suc i) state e k =
     let (h, t) = rows_below_kept now row rest s states e in
     rows_unbroken now row rest s (set states i state) h (rows_set now rest states i state t k)
 
--- and so are rows a tick later with afterUnits work.
+-- and so are rows a tick later with less work.
 last_later : (now u : ℕ) (last : Last) (left : ℕ) → last_broken now last left ≡ false → last_broken (suc now) last (left - u) ≡ false
 unfolding last_broken
 last_later now u Never left e = le-ltb 0 (left - u) (omega (arith, ltb-false 0 left e))

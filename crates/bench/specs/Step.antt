@@ -45,7 +45,7 @@ pub record Step : Type 0 where
   pub finishes : List Finish
   pub bench : Bench
 
--- a call that does `step` unlessRefused there is a refusal: then nothing changes
+-- a call that does `step` unless there is a refusal: then nothing changes
 unfoldable pub unless_refused : Option Refusal → Step → Bench → Step
 unless_refused none step b = step
 unless_refused (some why) step b = record { outcome = Refused why; finishes = []; bench = b }

@@ -23,7 +23,7 @@ unfolding after_units
 keeps_tick u kept =
     record { fits = omega arith; past = omega arith; known = λ left. kept.known (omega arith) }
 
--- a row with work left came afterUnits than its bound ago
+-- a row with work left came less than its bound ago
 pub in_time : {M now : ℕ} {b : Bounded} {st : RowState} {above : List Bounded} {up : List RowState}
     → Shown M above b → Window M now b st above up → 0 < work st → now < came st + b.bound
 in_time {now} {b} {st} shown window some = go window.mine
