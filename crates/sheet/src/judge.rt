@@ -30,6 +30,7 @@ fn check_board(tick: Micros, at: usize) -> Verdict
     Verdict::Sound
 }
 
+#[tactic(auto, unfolding(crate::specs::Checks::row_record_checks, crate::specs::Checks::verdict_of, laws::specs::Checks::first_failing))]
 fn check_row(sheet: Sheet, priority: u32, at: usize) -> Verdict
     ensures { result ≡ verdict_of (row_record_checks at sheet priority) }
 {
