@@ -11,7 +11,7 @@ use prog.Memory.{Memory}
 use prog.Routine.{Routine}
 use types.Logic.{Logic}
 use contract.Monad.{Fun, fact, fact_mono}
-use denote.Ref.{Bor}
+use denote.Ref.{Bor, MutBor}
 use Rattle.quantities.specs.declared.Row.{Row}
 use Rattle.quantities.specs.declared.Ticks.{Ticks}
 use Rattle.windows.specs.Answer.{judged_into}
@@ -76,7 +76,7 @@ of_list cores rows before after r given =
 -- `b` is the lent bench at entry and `left` at exit. A bench of the code has 32 states.
 module _ {M : Type 1} {𝓤 : Ura M} (𝓛 : Logic 𝓤) (mem : Memory → SProp 𝓤)
     (run : Routine → Fun 𝓤) where
-  pub release_held : (κ : Lft) (b left : Bor Bench) (place : ℕ) (demand : Ticks) (r : Outcome)
+  pub release_held : (κ : Lft) (b left : MutBor Bench) (place : ℕ) (demand : Ticks) (r : Outcome)
       → length b.now.states ≡ 32
       → ent 𝓤
       ((lent_release.clauses 𝓛 mem run (κ, tt) (b, (place, (demand, tt)))).ensures tt r
@@ -85,20 +85,20 @@ module _ {M : Type 1} {𝓤 : Ura M} (𝓛 : Logic 𝓤) (mem : Memory → SProp
   release_held κ b left place demand r many =
       fact_mono 𝓤 _ _ (of_release b.now place demand.0 left.now r many)
 
-  pub tick_held : (κ : Lft) (b left : Bor Bench) (r : LentTickAnswer) → length b.now.states ≡ 32
+  pub tick_held : (κ : Lft) (b left : MutBor Bench) (r : LentTickAnswer) → length b.now.states ≡ 32
       → ent 𝓤 ((lent_tick.clauses 𝓛 mem run (κ, tt) (b, tt)).ensures tt r (left, tt))
       (fact 𝓤
       (TickAnswer b.now (record { outcome = r.outcome; finishes = r.finishes; bench = left.now })))
   tick_held κ b left r many = fact_mono 𝓤 _ _ (of_tick b.now left.now r many)
 
-  pub run_held : (κ : Lft) (b left : Bor Bench) (ticks : Ticks) (r : Unit {0}) → length b.now.states ≡ 32
+  pub run_held : (κ : Lft) (b left : MutBor Bench) (ticks : Ticks) (r : Unit {0}) → length b.now.states ≡ 32
       → ent 𝓤 ((lent_run.clauses 𝓛 mem run (κ, tt) (b, (ticks, tt))).ensures tt r (left, (ticks, tt)))
       (fact 𝓤 (RunsFor ticks.0 b.now left.now))
   run_held κ b left ticks r many =
       fact_mono 𝓤 _ _
       (λ (is : left.now ≡ after b.now (ticks_for ticks.0)). rw is (of_run ticks.0 b.now many))
 
-  pub list_held : (κ κ' : Lft) (cores : ℕ) (rows rows' : Bor (List Row)) (bounds left : Bor (List Ticks))
+  pub list_held : (κ κ' : Lft) (cores : ℕ) (rows rows' : Bor (List Row)) (bounds left : MutBor (List Ticks))
       → (r : Answer)
       → ent 𝓤
       ((lent_list.clauses 𝓛 mem run (κ, (κ', tt)) (cores, (rows, (bounds, tt)))).ensures tt r
@@ -108,19 +108,19 @@ module _ {M : Type 1} {𝓤 : Ura M} (𝓛 : Logic 𝓤) (mem : Memory → SProp
       fact_mono 𝓤 _ _ (of_list cores rows.now bounds.now left.now r)
 
   -- And none of them asks anything of its caller.
-  pub release_asks_nothing : (κ : Lft) (b : Bor Bench) (place : ℕ) (demand : Ticks)
+  pub release_asks_nothing : (κ : Lft) (b : MutBor Bench) (place : ℕ) (demand : Ticks)
       → ent 𝓤 (emp 𝓤) ((lent_release.clauses 𝓛 mem run (κ, tt) (b, (place, (demand, tt)))).requires tt)
   release_asks_nothing κ b place demand = id⊢ 𝓤 _
 
-  pub tick_asks_nothing : (κ : Lft) (b : Bor Bench)
+  pub tick_asks_nothing : (κ : Lft) (b : MutBor Bench)
       → ent 𝓤 (emp 𝓤) ((lent_tick.clauses 𝓛 mem run (κ, tt) (b, tt)).requires tt)
   tick_asks_nothing κ b = id⊢ 𝓤 _
 
-  pub run_asks_nothing : (κ : Lft) (b : Bor Bench) (ticks : Ticks)
+  pub run_asks_nothing : (κ : Lft) (b : MutBor Bench) (ticks : Ticks)
       → ent 𝓤 (emp 𝓤) ((lent_run.clauses 𝓛 mem run (κ, tt) (b, (ticks, tt))).requires tt)
   run_asks_nothing κ b ticks = id⊢ 𝓤 _
 
-  pub list_asks_nothing : (κ κ' : Lft) (cores : ℕ) (rows : Bor (List Row)) (bounds : Bor (List Ticks))
+  pub list_asks_nothing : (κ κ' : Lft) (cores : ℕ) (rows : Bor (List Row)) (bounds : MutBor (List Ticks))
       → ent 𝓤 (emp 𝓤)
       ((lent_list.clauses 𝓛 mem run (κ, (κ', tt)) (cores, (rows, (bounds, tt)))).requires tt)
   list_asks_nothing κ κ' cores rows bounds = id⊢ 𝓤 _

@@ -6,7 +6,6 @@ use mathlib.Core.Path.{◌≡◌, refl, sym, ap, subst, ◌∙◌}
 use mathlib.Core.Logic.{◌⊎◌, inl, inr}
 use mathlib.Core.Bool.{Bool}
 use mathlib.Core.List.{List, [], ◌∷◌, ◌++◌}
-use mathlib.Core.Option.{none}
 use lib.ListN.{length, drop}
 use Rattle.laws.specs.Checks.{first_failing}
 use Rattle.laws.proofs.Tests.{not_one}

@@ -1,6 +1,5 @@
 -- Every starred number of document 01 holds of the definitions.
 use mathlib.Core.Path.{refl}
-use Rattle.laws.specs.Each.{Each}
 use Rattle.windows.specs.Computing.{answers_compute}
 use Rattle.bench.specs.Computing.{bench_computes}
 use Rattle.promises.specs.Starred.{StarredHold}

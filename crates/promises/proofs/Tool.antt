@@ -1,5 +1,5 @@
 -- The program's text goes the whole way from a sheet's bytes, and no tool that does prints another.
-use Prim.Native.Nat.{ℕ, zero, suc, ◌+◌, ◌-◌, ◌/◌, ◌%◌, ◌≤◌, ◌<◌}
+use Prim.Native.Nat.{ℕ, zero, suc, ◌-◌, ◌/◌, ◌%◌, ◌≤◌, ◌<◌}
 use native.Mathlib.Decide.{dec_lt}
 use native.Mathlib.Nat.{div-add-mod'}
 use native.Mathlib.Omega.{arith}
@@ -16,7 +16,7 @@ use Rattle.quantities.specs.Row.{row_of}
 use Rattle.quantities.specs.declared.Micros.{Micros}
 use Rattle.quantities.specs.declared.Row.{Row}
 use Rattle.quantities.specs.declared.Fault.{Fault}
-use Rattle.laws.specs.Checks.{Check, FirstFailing}
+use Rattle.laws.specs.Checks.{FirstFailing}
 use Rattle.quantities.specs.Checks.{list_fault, list_checks}
 use Rattle.quantities.specs.Table.{rows_of}
 use Rattle.laws.proofs.Checks.{first_found}

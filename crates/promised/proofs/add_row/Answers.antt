@@ -1,0 +1,11 @@
+-- add_row answers as Table::with_row does.
+use mathlib.Core.Path.{◌≡◌}
+use native.Mathlib.Omega.{arith}
+use lib.ListN.{length}
+use Rattle.promised.proofs.Promised.{one_row_more}
+use Rattle.promised.proofs.add_row.Goals as goal
+
+pub returns : goal.returns
+returns c =
+    let many : length c.args.table.rows ≡ 32 = omega arith in
+    one_row_more _ _ _ many c.with_row.ensures
