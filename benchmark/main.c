@@ -80,12 +80,9 @@ static void print_answer(uint64_t x, char *out, size_t size)
     else snprintf(out, size, "%u at %u", DIPPERSLATE_NUMBER(x), DIPPERSLATE_PLACE(x));
 }
 
-/* what the heads of the two columns of times say of them: nothing, or that they were run under an emulator */
-static const char *note = "";
-
 static void heading(const char *what)
 {
-    printf("\n| %s | Answer | Proved engine%s | Plain C%s | Ratio |\n|---|---|---|---|---|\n", what, note, note);
+    printf("\n| %s | Answer | Proved engine | Plain C | Ratio |\n|---|---|---|---|---|\n", what);
 }
 
 static void line(const char *name, const char *said, struct times t)
@@ -171,7 +168,6 @@ static void growth(double seconds)
 int main(int count, char **words)
 {
     double seconds = count > 1 ? atof(words[1]) : 1.0;
-    if (count > 2) note = words[2];
     compare();
     near_full_load(seconds);
     slow(seconds);
