@@ -248,6 +248,7 @@ impl Bench {
     }
 
     // Whether a tick is taken, or refused: the first of 29 and 24 decides.
+    #[tactic(auto, using(crate::proofs::Permitted::tick_24), unfolding(crate::specs::Refusal::outcome_of))]
     pub fn judge_tick(self) -> Outcome
         ensures { result ≡ outcome_of (first_failing (tick_tests self)) }
     {

