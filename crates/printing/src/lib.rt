@@ -6,12 +6,12 @@ ghost use Rattle.printing.specs.Decimal.{decimal, number_room};
 ghost use Rattle.printing.specs.Buffer.{Puts};
 
 // The digits of a number: those of its tenth, then the last.
+#[tactic(auto, using(crate::proofs::Digits::one_digit_lies, crate::proofs::Digits::one_digit_ends))]
 fn put_digits(out: &mut [u8], at: usize, n: u64) -> usize
     requires { at + length (decimal n) ≤ length out.old }
     ensures { Puts out.old at (decimal n) out.new result }
 {
-    let is_one_digit = n < 10;
-    if is_one_digit {
+    if n < 10 {
         out[at] = 48 + n as u8;
         return at + 1;
     }

@@ -1,16 +1,11 @@
 -- put_digits lays a number's digits over the buffer: those of its tenth, which is less, and then the last.
 use Rattle.std.proofs.Common.{◌+◌, ◌%◌, length, ap, arith, length-append}
 use Rattle.printing.proofs.Decimal.{decimal_one, decimal_more}
-use Rattle.printing.proofs.Buffer.{puts_byte, puts_more, length_puts}
+use Rattle.printing.proofs.Buffer.{puts_more, length_puts}
 use Rattle.printing.proofs.+put_digits.Goals as goal
 
 pub bounds-out-at : goal.bounds-out-at
 bounds-out-at t c = omega (arith, c.requires, ap length (decimal_one c.args.n (omega arith)))
-
-pub returns-then-is_one_digit : goal.returns-then-is_one_digit
-returns-then-is_one_digit t c =
-    let one = decimal_one c.args.n (omega arith) in
-    rw one (puts_byte c.args.out.now c.args.at (48 + c.args.n) (omega (arith, c.requires, ap length one)))
 
 pub put_digits-next-requires : goal.put_digits-next-requires
 put_digits-next-requires t c =
