@@ -6,7 +6,7 @@ use Rattle.text.proofs.print_answer.Goals as goal
 
 pub returns-then-out-lt-TEXT_ROOM : goal.returns-then-out-lt-TEXT_ROOM
 returns-then-out-lt-TEXT_ROOM c =
-    printed_nothing c.args.sheet.now c.args.out.now c.if-out-lt-TEXT_ROOM.true
+    printed_nothing c.args.sheet.now c.args.out.now (omega arith)
 
 pub returns-in-Refused : goal.returns-in-Refused
 returns-in-Refused c =
