@@ -100,7 +100,7 @@ fn raise(
 }
 
 // The most work of a row in a window without carry-in. It is at most the window, since C is at most T
-// (`plain-le-window`).
+// (`plain_le_window`).
 fn plain_work(cost: Ticks, gap: Ticks, window: Ticks) -> Ticks
     requires { (0 < gap.0) × (cost.0 ≤ gap.0) }
     ensures { result ≡ record { 0 = plain cost.0 gap.0 window.0 } }
@@ -119,7 +119,7 @@ fn plain_work(cost: Ticks, gap: Ticks, window: Ticks) -> Ticks
 }
 
 // The most work of a row with this bound in a window with carry-in. It is at most the window, or one poll
-// (`carry-le-window`).
+// (`carry_le_window`).
 fn carry_work(cost: Ticks, gap: Ticks, bound: Ticks, window: Ticks) -> Ticks
     requires { (0 < cost.0) × (cost.0 ≤ gap.0) × (bound.0 ≤ gap.0) }
     ensures { result ≡ record { 0 = carry cost.0 gap.0 bound.0 window.0 } }
