@@ -2,12 +2,12 @@
 use Prim.Native.Nat.{ℕ, suc, ◌≤◌, ◌<◌}
 use native.Mathlib.Omega.{arith}
 use lib.ListN.{length}
+use Rattle.std.specs.Prelude.{Option, None, Some}
 use Rattle.laws.specs.Each.{Each}
 use Rattle.laws.proofs.Lists.{each_map}
 use Rattle.quantities.specs.Limits.{row_capacity}
 use Rattle.quantities.proofs.Rows.{length_rows}
-use Rattle.bench.specs.declared.Last.{Last}
-use Rattle.bench.specs.declared.Last.TheVariants.{Never, At}
+use Rattle.quantities.specs.declared.Instant.{Instant}
 use Rattle.bench.specs.declared.Bench.{Bench}
 use Rattle.bench.specs.declared.Finish.{Finish}
 use Rattle.bench.specs.State.{last_instant, rows, state_at}
@@ -23,10 +23,10 @@ pub record Fits (poll : Finish) : Type 0 where
   pub place : poll.place ≤ row_capacity
   pub response : poll.response.0 ≤ last_instant
 
-since_le : (instant : ℕ) (last : Last) → since instant last ≤ instant
+since_le : (instant : ℕ) (last : Option Instant) → since instant last ≤ instant
 unfolding since
-since_le instant Never = omega arith
-since_le instant (At at) = omega arith
+since_le instant None = omega arith
+since_le instant (Some at) = omega arith
 
 ends_fit : (b : Bench) → length (rows b) ≤ row_capacity → b.now.0 < last_instant → (poll : Finish) → Ends b poll → Fits poll
 ends_fit b few early poll e =

@@ -3,33 +3,26 @@ use Prim.Native.Nat.{ℕ, ◌+◌, ◌-◌, ◌≤◌, ◌<◌}
 use native.Mathlib.Omega.{arith}
 use mathlib.Core.Path.{◌≡◌, refl}
 use mathlib.Core.Bool.{true, false}
-use lib.Dec.{ltb}
 use borrow.Author.Tests.{lt-ltb, le-ltb, ltb-false}
+use Rattle.std.specs.Prelude.{None, Some}
 use Rattle.quantities.specs.declared.Instant.{Instant}
-use Rattle.bench.specs.declared.Last.{Last}
-use Rattle.bench.specs.declared.Last.TheVariants.{Never, At}
 use Rattle.bench.specs.Refusal.{too_soon}
 
-pub first_never_soon : (now gap : ℕ) → too_soon now gap Never ≡ false
+pub first_never_soon : (now gap : ℕ) → too_soon now gap None ≡ false
 unfolding too_soon
 first_never_soon now gap = refl
 
 -- up to T − 1 ticks after the last release a release is too soon
-pub gap_not_over : (now gap : ℕ) (at : Instant) → now < at.0 + gap → at.0 ≤ now → too_soon now gap (At at) ≡ true
+pub gap_not_over : (now gap : ℕ) (at : Instant) → now < at.0 + gap → at.0 ≤ now → too_soon now gap (Some at) ≡ true
 unfolding too_soon
 gap_not_over now gap at h past = lt-ltb (now - at.0) gap (omega arith)
 
 -- from T ticks on it is not
-pub gap_over : (now gap : ℕ) (at : Instant) → at.0 + gap ≤ now → too_soon now gap (At at) ≡ false
+pub gap_over : (now gap : ℕ) (at : Instant) → at.0 + gap ≤ now → too_soon now gap (Some at) ≡ false
 unfolding too_soon
 gap_over now gap at h = le-ltb (now - at.0) gap (omega arith)
 
--- A release after the instant is too soon for every gap but none.
-pub too_soon_later : (now gap : ℕ) (last : Last) (at : Instant) → last ≡ At at → now < at.0 → too_soon now gap last ≡ ltb 0 gap
-unfolding too_soon
-too_soon_later now gap last at e h = let z : now - at.0 ≡ 0 = omega arith in rw (e, z)
-
 -- what a release that is not too soon says of the last one
-pub gap_kept : (now gap : ℕ) (at : Instant) → too_soon now gap (At at) ≡ false → gap ≤ now - at.0
+pub gap_kept : (now gap : ℕ) (at : Instant) → too_soon now gap (Some at) ≡ false → gap ≤ now - at.0
 unfolding too_soon
 gap_kept now gap at e = ltb-false (now - at.0) gap e

@@ -4,10 +4,11 @@ use native.Mathlib.Omega.{arith}
 use mathlib.Core.Path.{◌≡◌, refl, sym, ap, ◌∙◌}
 use mathlib.Core.Bool.{false, ◌||◌}
 use mathlib.Core.List.{List, [], ◌∷◌}
-use mathlib.Core.Option.{Option, none, some}
+use mathlib.Core.Option.{Option as Maybe, none, some}
 use lib.Dec.{ltb}
 use lib.ListN.{length, get_or, set, replicate, length-set, length-replicate}
 use borrow.Author.Tests.{le-ltb, ltb-false}
+use Rattle.std.specs.Prelude.{Option, None, Some}
 use Rattle.laws.specs.Checks.{check_for, first_failing}
 use Rattle.laws.proofs.Checks.{told_has, first_passes}
 use Rattle.laws.proofs.Tests.{or_false, not_one}
@@ -18,8 +19,7 @@ use Rattle.quantities.specs.Checks.{list_fault}
 use Rattle.quantities.specs.declared.Row.{Row}
 use Rattle.quantities.specs.declared.Fault.{Fault}
 use Rattle.quantities.specs.declared.Table.{Table}
-use Rattle.bench.specs.declared.Last.{Last}
-use Rattle.bench.specs.declared.Last.TheVariants.{Never, At}
+use Rattle.quantities.specs.declared.Instant.{Instant}
 use Rattle.bench.specs.declared.RowState.{RowState}
 use Rattle.bench.specs.declared.Bench.{Bench}
 use Rattle.bench.specs.declared.Refusal.{Refusal}
@@ -107,10 +107,10 @@ rows_set now (row ∷ rest) (s ∷ states) (suc i) state e k =
     rows_unbroken now row rest s (set states i state) h (rows_set now rest states i state t k)
 
 -- and so are rows a tick later with less work.
-last_later : (now u : ℕ) (last : Last) (left : ℕ) → last_broken now last left ≡ false → last_broken (suc now) last (left - u) ≡ false
+last_later : (now u : ℕ) (last : Option Instant) (left : ℕ) → last_broken now last left ≡ false → last_broken (suc now) last (left - u) ≡ false
 unfolding last_broken
-last_later now u Never left e = le-ltb 0 (left - u) (omega (arith, ltb-false 0 left e))
-last_later now u (At at) left e = le-ltb (suc now) at.0 (omega (arith, ltb-false now at.0 e))
+last_later now u None left e = le-ltb 0 (left - u) (omega (arith, ltb-false 0 left e))
+last_later now u (Some at) left e = le-ltb (suc now) at.0 (omega (arith, ltb-false now at.0 e))
 
 less_kept : (now u : ℕ) (row : Row) (state : RowState) → RowKept now row state → RowKept (suc now) row (after_units u state)
 unfolding after_units
@@ -146,7 +146,7 @@ pub opened_empty : (cores : ℕ) (table : Table) (b : Bench) → opened cores ta
 unfolding opened opened_after
 opened_empty cores table b e = at (list_fault cores (rows_of table)) refl e
   where
-    at : (found : Option Fault) → list_fault cores (rows_of table) ≡ found → opened_after found cores table ≡ some b
+    at : (found : Maybe Fault) → list_fault cores (rows_of table) ≡ found → opened_after found cores table ≡ some b
         → (list_fault cores (rows_of table) ≡ none) × (b ≡ empty_bench cores table)
     at none q e = (q, cc)
     at (some fault) q e = absurd (not_one cc)

@@ -6,17 +6,9 @@ use mathlib.Core.Path.{◌≡◌, refl, sym, ◌∙◌}
 use mathlib.Core.Bool.{false}
 use lib.Dec.{eqb}
 use borrow.Author.Tests.{ne_eqb}
-use Rattle.quantities.specs.declared.Instant.{Instant}
-use Rattle.bench.specs.declared.Last.{Last}
-use Rattle.bench.specs.declared.Last.TheVariants.{At}
 use Rattle.bench.specs.declared.RowState.{RowState}
 use Rattle.bench.specs.State.{work}
-use Rattle.bench.specs.Serving.{unit, after_units, ends, since, turn_of}
-
--- Since a release that is after the instant there are none.
-pub since_later : (instant : ℕ) (last : Last) (at : Instant) → last ≡ At at → instant < at.0 → since instant last ≡ 0
-unfolding since
-since_later instant last at e h = rw e (omega arith)
+use Rattle.bench.specs.Serving.{unit, after_units, ends, turn_of}
 
 -- What a row gets: nothing without a free core or without work, else one unit.
 pub unit_no_core : (left : ℕ) → unit 0 left ≡ 0

@@ -8,11 +8,10 @@ use lib.ListN.{length, get_or, take, length-take, get_or-eq_default}
 use lib.Seq.{get_or-take, take-take}
 use borrow.Author.Tests.{ltb-false}
 use mathlib.Core.Bool.{false}
+use Rattle.std.specs.Prelude.{Option, None, Some}
 use Rattle.laws.specs.Member.{Member}
 use Rattle.laws.proofs.Lists.{each_map}
 use Rattle.quantities.specs.declared.Instant.{Instant}
-use Rattle.bench.specs.declared.Last.{Last}
-use Rattle.bench.specs.declared.Last.TheVariants.{Never, At}
 use Rattle.bench.specs.declared.RowState.{RowState}
 use Rattle.bench.specs.declared.Bench.{Bench}
 use Rattle.bench.specs.declared.Finish.{Finish}
@@ -108,11 +107,11 @@ listed b poll e =
     (last_unit_ends b poll.place e.gets.first (gets_one b poll.place e.gets) e.last_unit)
 
 -- A row with work was released at some instant.
-released_at : (now : ℕ) (last : Last) (left : ℕ) → last_broken now last left ≡ false → 0 < left
-    → (release : Instant) × (last ≡ At release)
+released_at : (now : ℕ) (last : Option Instant) (left : ℕ) → last_broken now last left ≡ false → 0 < left
+    → (release : Instant) × (last ≡ Some release)
 unfolding last_broken
-released_at now Never left e h = absurd (omega (arith, ltb-false 0 left e))
-released_at now (At at) left e h = (at, refl)
+released_at now None left e h = absurd (omega (arith, ltb-false 0 left e))
+released_at now (Some at) left e h = (at, refl)
 
 ends_so : (b : Bench) → Kept b → length (rows b) ≤ length b.states
     → (poll : Finish) → Ends b poll → PollEnds b poll

@@ -1,11 +1,10 @@
 -- What turns a call away, in the order of document 01, and the number and place of each refusal.
-use Rattle.std.specs.Prelude.{ℕ, ◌-◌, Bool, false, ◌||◌, List, [], ◌∷◌, eqb, ltb, length}
-use Rattle.std.proofs.Math.Option.{Option, none, some}
+use Rattle.std.specs.Prelude.{ℕ, ◌-◌, Bool, false, ◌||◌, List, [], ◌∷◌, eqb, ltb, length, Option, None, Some}
+use Rattle.std.proofs.Math.Option.{Option as Maybe, none, some}
 use Rattle.laws.specs.Checks.{Check, check_for}
 use Rattle.quantities.specs.Row.{cost, gap}
 use Rattle.quantities.specs.Paper.{Paper, paper, no_refusal}
-use Rattle.bench.specs.declared.Last.{Last}
-use Rattle.bench.specs.declared.Last.TheVariants.{Never, At}
+use Rattle.quantities.specs.declared.Instant.{Instant}
 use Rattle.bench.specs.declared.Bench.{Bench}
 use Rattle.bench.specs.declared.Refusal.{Refusal}
 use Rattle.bench.specs.declared.Refusal.TheVariants.{NoPlace, Unfinished, TooSoon, WrongDemand}
@@ -15,9 +14,9 @@ use Rattle.bench.specs.declared.Outcome.TheVariants.{Taken, Refused}
 use Rattle.bench.specs.State.{last_instant, rows, row_at, state_at, work, broken}
 
 -- whether fewer than `gap` ticks are over since the last release; a first release is never too soon
-unfoldable pub too_soon : (now gap : ℕ) → Last → Bool
-too_soon now gap Never = false
-too_soon now gap (At at) = ltb (now - at.0) gap
+unfoldable pub too_soon : (now gap : ℕ) → Option Instant → Bool
+too_soon now gap None = false
+too_soon now gap (Some at) = ltb (now - at.0) gap
 
 -- whether a release of the row at a place is too soon, and whether its last poll leaves no room for one
 abbrev pub soon_at : Bench → (place : ℕ) → Bool
@@ -41,7 +40,7 @@ unfoldable pub tick_tests : Bench → List (Check Refusal)
 tick_tests b = check_for BrokenRecord (broken b) ∷ check_for ClockEnd (eqb b.now.0 last_instant) ∷ []
 
 -- a refusal, or none, as the code's functions answer it
-unfoldable pub outcome_of : Option Refusal → Outcome
+unfoldable pub outcome_of : Maybe Refusal → Outcome
 outcome_of none = Taken
 outcome_of (some why) = Refused why
 

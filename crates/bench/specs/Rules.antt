@@ -1,5 +1,5 @@
 -- What the bench promises, a type for each sentence of document 01. proofs/Rules.antt proves each.
-use Rattle.std.specs.Prelude.{ℕ, ◌+◌, ◌≤◌, ◌<◌, ◌≡◌, false, ◌||◌, List, [], ◌∷◌, map, eqb, ltb, length}
+use Rattle.std.specs.Prelude.{ℕ, ◌+◌, ◌≤◌, ◌<◌, ◌≡◌, false, ◌||◌, List, [], ◌∷◌, map, eqb, ltb, length, None, Some}
 use Rattle.std.proofs.Math.Option.{none, some}
 use Rattle.quantities.specs.Limits.{row_capacity}
 use Rattle.quantities.specs.Row.{cost, gap}
@@ -10,7 +10,6 @@ use Rattle.quantities.specs.Paper.{Paper, paper, checked_paper}
 use Rattle.quantities.specs.declared.Instant.{Instant}
 use Rattle.quantities.specs.declared.Table.{Table}
 use Rattle.quantities.specs.declared.Checked.TheVariants.{Sound}
-use Rattle.bench.specs.declared.Last.TheVariants.{Never, At}
 use Rattle.bench.specs.declared.Bench.{Bench}
 use Rattle.bench.specs.declared.Refusal.{Refusal}
 use Rattle.bench.specs.declared.Refusal.TheVariants.{BrokenRecord}
@@ -146,14 +145,14 @@ pub record Ready (b : Bench) (place demand : ℕ) : Type 0 where
 abbrev pub ExactGapPermitted : Type 0
 ExactGapPermitted =
     (b : Bench) (place demand : ℕ) (at : Instant)
-    → Ready b place demand → (state_at b place).last ≡ At at → b.now.0 ≡ at.0 + gap (row_at b place)
+    → Ready b place demand → (state_at b place).last ≡ Some at → b.now.0 ≡ at.0 + gap (row_at b place)
     → (release b place demand).outcome ≡ Taken
 
 -- A row's first release is permitted at each instant.
 abbrev pub FirstReleasePermitted : Type 0
 FirstReleasePermitted =
     (b : Bench) (place demand : ℕ)
-    → Ready b place demand → (state_at b place).last ≡ Never → (release b place demand).outcome ≡ Taken
+    → Ready b place demand → (state_at b place).last ≡ None → (release b place demand).outcome ≡ Taken
 
 -- From an empty bench, for each row, demand accepted in the history equals units served in the history's
 -- ticks plus what remains.

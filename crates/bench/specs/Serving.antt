@@ -1,7 +1,6 @@
 -- What a tick does to the rows: which get a unit of work, what remains, and which polls end.
-use Rattle.std.specs.Prelude.{ℕ, suc, ◌+◌, ◌-◌, min, Bool, true, false, ◌&&◌, List, [], ◌∷◌, eqb, ltb}
-use Rattle.bench.specs.declared.Last.{Last}
-use Rattle.bench.specs.declared.Last.TheVariants.{Never, At}
+use Rattle.std.specs.Prelude.{ℕ, suc, ◌+◌, ◌-◌, min, Bool, true, false, ◌&&◌, List, [], ◌∷◌, eqb, ltb, Option, None, Some}
+use Rattle.quantities.specs.declared.Instant.{Instant}
 use Rattle.bench.specs.declared.RowState.{RowState}
 use Rattle.bench.specs.declared.Finish.{Finish}
 use Rattle.bench.specs.declared.Turn.{Turn}
@@ -41,9 +40,9 @@ unfoldable pub ends : ℕ → RowState → Bool
 ends u state = ltb 0 u && eqb (work state - u) 0
 
 -- the ticks from a last release to an instant
-unfoldable pub since : (instant : ℕ) → Last → ℕ
-since instant Never = 0
-since instant (At at) = instant - at.0
+unfoldable pub since : (instant : ℕ) → Option Instant → ℕ
+since instant None = 0
+since instant (Some at) = instant - at.0
 
 -- the row at a place, whose poll ended at an instant
 unfoldable pub finish_of : (instant place : ℕ) → RowState → Finish

@@ -1,13 +1,12 @@
 -- What the bench holds of its rows, and when number 29 is due for its record.
-use Rattle.std.specs.Prelude.{ℕ, ◌-◌, Bool, true, false, ◌||◌, List, [], ◌∷◌, ltb, get_or}
-use Rattle.std.proofs.Math.Option.{Option, none, some}
+use Rattle.std.specs.Prelude.{ℕ, ◌-◌, Bool, true, false, ◌||◌, List, [], ◌∷◌, ltb, get_or, Option, None, Some}
+use Rattle.std.proofs.Math.Option.{Option as Maybe, none, some}
 use Rattle.quantities.specs.Row.{cost, no_row}
 use Rattle.quantities.specs.Table.{rows_of}
 use Rattle.quantities.specs.Checks.{list_fault}
 use Rattle.quantities.specs.declared.Row.{Row}
 use Rattle.quantities.specs.declared.Fault.{Fault}
-use Rattle.bench.specs.declared.Last.{Last}
-use Rattle.bench.specs.declared.Last.TheVariants.{Never, At}
+use Rattle.quantities.specs.declared.Instant.{Instant}
 use Rattle.bench.specs.declared.RowState.{RowState}
 use Rattle.bench.specs.declared.Bench.{Bench}
 
@@ -17,7 +16,7 @@ last_instant = 1000000000
 
 -- the state of a row that was never released
 abbrev pub idle : RowState
-idle = record { last = Never; demand = record { 0 = 0 }; left = record { 0 = 0 } }
+idle = record { last = None; demand = record { 0 = 0 }; left = record { 0 = 0 } }
 
 -- the work that remains of a row's last poll
 abbrev pub work : RowState → ℕ
@@ -34,9 +33,9 @@ abbrev pub state_at : Bench → ℕ → RowState
 state_at b place = get_or b.states (place - 1) idle
 
 -- whether a last release is after the present instant, or there is work on a row never released
-unfoldable pub last_broken : (now : ℕ) → Last → (left : ℕ) → Bool
-last_broken now Never left = ltb 0 left
-last_broken now (At at) left = ltb now at.0
+unfoldable pub last_broken : (now : ℕ) → Option Instant → (left : ℕ) → Bool
+last_broken now None left = ltb 0 left
+last_broken now (Some at) left = ltb now at.0
 
 -- whether 29 is due for a row's state: by its last release, a demand above C, a remainder above that demand
 unfoldable pub row_broken : (now : ℕ) → Row → RowState → Bool
@@ -51,7 +50,7 @@ rows_broken now (row ∷ rest) [] = false
 rows_broken now (row ∷ rest) (state ∷ states) = row_broken now row state || rows_broken now rest states
 
 -- whether there is a fault
-unfoldable pub is_fault : Option Fault → Bool
+unfoldable pub is_fault : Maybe Fault → Bool
 is_fault none = false
 is_fault (some fault) = true
 

@@ -1,5 +1,5 @@
 -- The calls on a bench: opening, release, tick. A refused call changes nothing.
-use Rattle.std.specs.Prelude.{ℕ, suc, ◌-◌, List, [], length, take, set, replicate}
+use Rattle.std.specs.Prelude.{ℕ, suc, ◌-◌, List, [], length, take, set, replicate, Some}
 use Rattle.std.proofs.Math.Option.{Option, none, some}
 use Rattle.laws.specs.Checks.{first_failing}
 use Rattle.quantities.specs.Limits.{row_capacity}
@@ -7,7 +7,6 @@ use Rattle.quantities.specs.Table.{rows_of, empty_table}
 use Rattle.quantities.specs.Checks.{list_fault, checked_of}
 use Rattle.quantities.specs.declared.Table.{Table}
 use Rattle.quantities.specs.declared.Fault.{Fault}
-use Rattle.bench.specs.declared.Last.TheVariants.{At}
 use Rattle.bench.specs.declared.RowState.{RowState}
 use Rattle.bench.specs.declared.Bench.{Bench}
 use Rattle.bench.specs.declared.Refusal.{Refusal}
@@ -53,7 +52,7 @@ unless_refused (some why) step b = record { outcome = Refused why; finishes = []
 -- a poll that starts with this demand at an instant
 abbrev pub fresh : (now demand : ℕ) → RowState
 fresh now demand =
-    record { last = At (record { 0 = now }); demand = record { 0 = demand }; left = record { 0 = demand } }
+    record { last = Some (record { 0 = now }); demand = record { 0 = demand }; left = record { 0 = demand } }
 
 -- the bench with a poll of `demand` started at `place`
 unfoldable pub started : Bench → (place demand : ℕ) → Bench

@@ -1,9 +1,8 @@
 -- The tick rule of document 01, said of any step: who gets a unit, what stays, and what is listed.
-use Rattle.std.specs.Prelude.{ℕ, suc, ◌+◌, ◌-◌, ◌≤◌, ◌<◌, min, ◌≡◌, List, [], ◌∷◌, map, length, take}
+use Rattle.std.specs.Prelude.{ℕ, suc, ◌+◌, ◌-◌, ◌≤◌, ◌<◌, min, ◌≡◌, List, [], ◌∷◌, map, length, take, Some}
 use Rattle.laws.specs.Each.{Each}
 use Rattle.laws.specs.Member.{Member}
 use Rattle.quantities.specs.declared.Instant.{Instant}
-use Rattle.bench.specs.declared.Last.TheVariants.{At}
 use Rattle.bench.specs.declared.RowState.{RowState}
 use Rattle.bench.specs.declared.Bench.{Bench}
 use Rattle.bench.specs.declared.Finish.{Finish}
@@ -29,7 +28,7 @@ pub record PollEnds (b : Bench) (poll : Finish) : Type 0 where
   pub gets : Gets b poll.place
   pub last_unit : work (state_at b poll.place) ≡ 1
   pub release : Instant
-  pub released : (state_at b poll.place).last ≡ At release
+  pub released : (state_at b poll.place).last ≡ Some release
   pub response : poll.response.0 ≡ suc b.now.0 - release.0
 
 -- polls in rising place, from a place on

@@ -17,17 +17,10 @@ use tick::serve;
 mod checks;
 mod tick;
 
-// When a row was last released.
-#[derive(Clone, Copy)]
-pub enum Last {
-    Never,
-    At(Instant),
-}
-
-// What the bench holds of a row: its last release, the demand released then, and what remains of it.
+// What the bench holds of a row: its last release, if there was one, the demand released then, and what remains of it.
 #[derive(Clone, Copy)]
 pub struct RowState {
-    pub last: Last,
+    pub last: Option<Instant>,
     pub demand: Ticks,
     pub left: Ticks,
 }
@@ -112,6 +105,7 @@ struct Turn {
 
 impl Finishes {
     // The list of no polls.
+    #[tactic(auto, unfolding(crate::specs::Ended::finishes_of))]
     fn none() -> Finishes
         ensures { result ≡ finishes_of [] }
     {
@@ -127,6 +121,7 @@ impl Finishes {
     }
 
     // The list with one poll more, if it ended.
+    #[tactic(auto, unfolding(crate::specs::Ended::noted))]
     fn noted(mut self, ended: bool, poll: Finish) -> Finishes
         requires { self.count < row_capacity }
         ensures { result ≡ noted self ended poll }
@@ -150,6 +145,7 @@ impl Bench {
     }
 
     // The bench of a table with no row, which stands where an opening is refused.
+    #[tactic(auto, unfolding(crate::specs::Step::no_bench))]
     fn none() -> Bench
         ensures { result ≡ no_bench }
     {
@@ -157,12 +153,12 @@ impl Bench {
     }
 
     // The bench of a table at instant 0, with no row released.
+    #[tactic(auto, unfolding(crate::specs::Step::empty_bench))]
     fn empty(cores: u32, table: Table) -> Bench
         ensures { result ≡ empty_bench cores table }
     {
-        let never = Last::Never;
         let idle = RowState {
-            last: never,
+            last: None,
             demand: Ticks(0),
             left: Ticks(0),
         };
@@ -262,14 +258,14 @@ impl Bench {
     }
 
     // The bench with a poll of `demand` started at a place of its states, at the present instant.
+    #[tactic(auto, unfolding(crate::specs::Step::started))]
     fn start(mut self, place: usize, demand: Ticks) -> Bench
         requires { (0 < place) × (place ≤ row_capacity) }
         ensures { result ≡ started self place demand.0 }
     {
         let now = self.now;
-        let last = Last::At(now);
         let fresh = RowState {
-            last: last,
+            last: Some(now),
             demand: demand,
             left: demand,
         };

@@ -5,21 +5,17 @@ ghost use Rattle.bench.specs.State.{last_instant};
 ghost use Rattle.bench.specs.Serving.{since, turn_of};
 ghost use Rattle.bench.specs.Step.{ticked_of, taken};
 
-use crate::{Bench, Finish, Finishes, Last, Outcome, RowState, Ticked, Turn};
+use crate::{Bench, Finish, Finishes, Outcome, RowState, Ticked, Turn};
 use quantities::{Instant, Ticks};
 
 // The ticks from a last release to an instant.
-fn since(instant: Instant, last: Last) -> Ticks
+#[tactic(auto, unfolding(crate::specs::Serving::since))]
+fn since(instant: Instant, last: Option<Instant>) -> Ticks
     ensures { result ≡ record { 0 = since instant.0 last } }
 {
     match last {
-        Last::Never => Ticks(0),
-        Last::At(at) => {
-            if instant.0 < at.0 {
-                return Ticks(0);
-            }
-            Ticks(instant.0 - at.0)
-        }
+        None => Ticks(0),
+        Some(at) => Ticks(instant.0.saturating_sub(at.0)),
     }
 }
 

@@ -5,10 +5,11 @@ use mathlib.Core.Path.{◌≡◌, refl, sym, subst}
 use mathlib.Core.Logic.{◌⊎◌, inl, inr}
 use mathlib.Core.Bool.{Bool, true, false, ◌||◌}
 use mathlib.Core.List.{List, [], ◌∷◌}
-use mathlib.Core.Option.{Option, none, some}
+use mathlib.Core.Option.{Option as Maybe, none, some}
 use lib.Dec.{ltb}
 use lib.ListN.{length, get_or}
 use borrow.Author.Tests.{ltb-true, lt-ltb, le-ltb}
+use Rattle.std.specs.Prelude.{Option, None, Some}
 use Rattle.quantities.specs.Paper.{Paper}
 use Rattle.quantities.specs.declared.Row.{Row}
 use Rattle.quantities.specs.Row.{cost, no_row}
@@ -17,8 +18,7 @@ use Rattle.quantities.specs.Checks.{fault_from, list_fault, list_checks}
 use Rattle.laws.proofs.Checks.{first_failing_lem}
 use Rattle.laws.proofs.Tests.{not_one}
 use Rattle.quantities.proofs.Paper.{turned_away}
-use Rattle.bench.specs.declared.Last.{Last}
-use Rattle.bench.specs.declared.Last.TheVariants.{Never, At}
+use Rattle.quantities.specs.declared.Instant.{Instant}
 use Rattle.bench.specs.declared.RowState.{RowState}
 use Rattle.bench.specs.declared.Bench.{Bench}
 use Rattle.bench.specs.State.{idle, last_broken, row_broken, rows_broken, is_fault, broken}
@@ -93,7 +93,7 @@ table_breaks : (b : Bench) → faulty b ≡ true → RecordBroken b
 unfolding is_fault list_fault fault_from
 table_breaks b e = go (first_failing (list_checks b.cores (rows_on b))) refl
   where
-    go : (found : Option Paper) → first_failing (list_checks b.cores (rows_on b)) ≡ found → RecordBroken b
+    go : (found : Maybe Paper) → first_failing (list_checks b.cores (rows_on b)) ≡ found → RecordBroken b
     go none q = absurd (not_one (cc (rw (q, fault_from, is_fault) at e)))
     go (some one) q =
         let first = first_failing_lem (list_checks b.cores (rows_on b)) one q in
@@ -120,7 +120,7 @@ module _ (b : Bench) (place : ℕ) (on : OnBoard b place) where
   abbrev state : RowState
   state = state_on b place
 
-  abbrev last_bad : Last → Bool
+  abbrev last_bad : Option Instant → Bool
   last_bad last = last_broken b.now.0 last state.left.0
 
   abbrev demand_above : Bool
@@ -129,11 +129,11 @@ module _ (b : Bench) (place : ℕ) (on : OnBoard b place) where
   abbrev left_above : Bool
   left_above = ltb state.demand.0 state.left.0
 
-  last_breaks : (last : Last) → state.last ≡ last → last_bad last ≡ true → RecordBroken b
+  last_breaks : (last : Option Instant) → state.last ≡ last → last_bad last ≡ true → RecordBroken b
   unfolding last_broken
-  last_breaks Never q e =
+  last_breaks None q e =
       let h = ltb-true 0 state.left.0 e in work_never_released place on q (omega arith)
-  last_breaks (At at) q e =
+  last_breaks (Some at) q e =
       let h = ltb-true b.now.0 at.0 e in released_later place at on q (omega arith)
 
   demand_breaks : (demand_above ≡ true) ⊎ (left_above ≡ true) → RecordBroken b

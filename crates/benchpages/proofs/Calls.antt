@@ -9,14 +9,13 @@ use mathlib.Core.Option.{some}
 use lib.Dec.{eqb, ltb}
 use lib.ListN.{length}
 use borrow.Author.Tests.{ltb-false, lt-ltb, le-ltb, eqb-false, ne_eqb}
+use Rattle.std.specs.Prelude.{Option, None, Some}
 use Rattle.laws.proofs.Tests.{or_false, not_one}
 use Rattle.quantities.specs.declared.Instant.{Instant}
 use Rattle.quantities.specs.Paper.{Paper, paper}
 use Rattle.laws.specs.Checks.{Check, first_failing}
 use Rattle.quantities.specs.Checks.{check}
 use Rattle.laws.proofs.Checks.{first_failing_lem, first_found, first_passes, failing_behind, none_fails, none_found, told_has}
-use Rattle.bench.specs.declared.Last.{Last}
-use Rattle.bench.specs.declared.Last.TheVariants.{Never, At}
 use Rattle.bench.specs.declared.Bench.{Bench}
 use Rattle.bench.specs.declared.Outcome.{Outcome}
 use Rattle.bench.specs.declared.Outcome.TheVariants.{Taken, Refused}
@@ -44,7 +43,7 @@ gap_alike now at gap past = go (dec_le (at + gap) now)
 
 -- The last release of a row is not after the present instant, where the record is not broken.
 not_later : (b : Bench) (place : ℕ) (at : Instant) → broken b ≡ false → OnBoard b place
-    → (state_on b place).last ≡ At at → at.0 ≤ b.now.0
+    → (state_on b place).last ≡ Some at → at.0 ≤ b.now.0
 not_later b place at whole on q = elim (dec_le at.0 b.now.0) [
   | yes h ↦ h
   | no h ↦
@@ -53,11 +52,11 @@ not_later b place at whole on q = elim (dec_le at.0 b.now.0) [
 
 -- So 22 fails as the function's own test does, where 29 and 20 pass.
 early_soon : (b : Bench) (place : ℕ) → broken b ≡ false → OnBoard b place
-    → (last : Last) → (state_on b place).last ≡ last
+    → (last : Option Instant) → (state_on b place).last ≡ last
     → too_early b.now.0 (row_on b place).t.0 last ≡ too_soon b.now.0 (row_on b place).t.0 last
 unfolding too_soon
-early_soon b place whole on Never q = refl
-early_soon b place whole on (At at) q =
+early_soon b place whole on None q = refl
+early_soon b place whole on (Some at) q =
     gap_alike b.now.0 at.0 (row_on b place).t.0 (not_later b place at whole on q)
 
 -- Of two lists of checks that begin alike, the same is the first to fail if it is so of the rest of them.

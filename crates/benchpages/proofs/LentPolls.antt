@@ -4,10 +4,10 @@ use native.Mathlib.Omega.{arith}
 use mathlib.Core.Path.{◌≡◌, refl, sym, ap, ◌∙◌}
 use mathlib.Core.List.{List, [], ◌∷◌, ◌++◌}
 use lib.Seq.{take-append_seam}
+use Rattle.std.specs.Prelude.{Option, None, Some}
 use Rattle.laws.specs.Each.{Each}
 use Rattle.quantities.specs.Paper.{paper}
-use Rattle.bench.specs.declared.Last.{Last}
-use Rattle.bench.specs.declared.Last.TheVariants.{Never, At}
+use Rattle.quantities.specs.declared.Instant.{Instant}
 use Rattle.bench.specs.declared.Bench.{Bench}
 use Rattle.bench.specs.declared.Finish.{Finish}
 use Rattle.bench.specs.Ended.{finishes_of}
@@ -63,10 +63,10 @@ lent_runs_history b calls end heard =
     (lent_run, λ run. rw (run.ends, run.hears) (lent_history calls b))
 
 -- a last release that came less than the bound ago
-pub less_ago : (b : Bench) (place bound : ℕ) (last : Last) → (state_on b place).last ≡ last
+pub less_ago : (b : Bench) (place bound : ℕ) (last : Option Instant) → (state_on b place).last ≡ last
     → LessAgo b.now.0 bound last → ReleasedWithin bound b place
-less_ago b place bound Never is ago = absurd ago
-less_ago b place bound (At at) is ago = record { release = at; last_release = is; less_ago = ago }
+less_ago b place bound None is ago = absurd ago
+less_ago b place bound (Some at) is ago = record { release = at; last_release = is; less_ago = ago }
 
 -- Demand 3.
 same_heard : (b : Bench) (calls : List Call) → answers_heard b calls ≡ answers_to calls (steps b calls)

@@ -5,12 +5,12 @@ use mathlib.Core.Path.{◌≡◌, refl, sym, ap, ◌∙◌}
 use mathlib.Core.Bool.{false}
 use mathlib.Core.List.{List, [], ◌∷◌, map}
 use lib.ListN.{length, get_or, take}
+use Rattle.std.specs.Prelude.{Option, Some}
 use Rattle.laws.specs.Each.{Each}
 use Rattle.laws.proofs.Lists.{each_map}
 use Rattle.laws.proofs.Checks.{none_fails, none_found}
+use Rattle.quantities.specs.declared.Instant.{Instant}
 use Rattle.bench.specs.declared.Bench.{Bench}
-use Rattle.bench.specs.declared.Last.{Last}
-use Rattle.bench.specs.declared.Last.TheVariants.{At}
 use Rattle.bench.specs.declared.RowState.{RowState}
 use Rattle.bench.specs.declared.Finish.{Finish}
 use Rattle.bench.specs.State.{idle, work}
@@ -46,12 +46,12 @@ release_starts b place demand room passed =
     }
 
 -- what a poll's row holds, said of its parts
-state_is : (state : RowState) (now demand : ℕ) → state.last ≡ At (record { 0 = now }) → state.demand.0 ≡ demand
+state_is : (state : RowState) (now demand : ℕ) → state.last ≡ Some (record { 0 = now }) → state.demand.0 ≡ demand
     → state.left.0 ≡ demand → state ≡ fresh now demand
 state_is state now demand last released remains =
-    ap (λ (l : Last). record { last = l; demand = state.demand; left = state.left }) last
-    ∙ ap (λ (n : ℕ). record { last = At (record { 0 = now }); demand = record { 0 = n }; left = state.left }) released
-    ∙ ap (λ (n : ℕ). record { last = At (record { 0 = now }); demand = record { 0 = demand }; left = record { 0 = n } }) remains
+    ap (λ (l : Option Instant). record { last = l; demand = state.demand; left = state.left }) last
+    ∙ ap (λ (n : ℕ). record { last = Some (record { 0 = now }); demand = record { 0 = n }; left = state.left }) released
+    ∙ ap (λ (n : ℕ). record { last = Some (record { 0 = now }); demand = record { 0 = demand }; left = record { 0 = n } }) remains
 
 started_by_rule : (b : Bench) (place demand : ℕ) (step : Step) → PollStarted b place demand step
     → ReleaseRule b place demand step

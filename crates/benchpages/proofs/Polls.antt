@@ -6,12 +6,11 @@ use mathlib.Core.Logic.{◌⊎◌, inl, inr, ⊎_elim}
 use mathlib.Core.List.{List, [], ◌∷◌, ◌++◌}
 use mathlib.Core.Option.{some}
 use lib.ListN.{length}
+use Rattle.std.specs.Prelude.{Option, Some}
 use Rattle.laws.specs.Each.{Each}
 use Rattle.laws.proofs.Lists.{each_member}
 use Rattle.quantities.specs.declared.Instant.{Instant}
 use Rattle.quantities.specs.declared.Table.{Table}
-use Rattle.bench.specs.declared.Last.{Last}
-use Rattle.bench.specs.declared.Last.TheVariants.{At}
 use Rattle.bench.specs.declared.Bench.{Bench}
 use Rattle.bench.specs.State.{state_at}
 use Rattle.bench.specs.Step.{Step, opened, release, tick}
@@ -53,7 +52,7 @@ opened_in_time cores table start is place first within =
     }
 
 -- a release that came less than the bound ago
-less_ago : (now bound released : ℕ) (last : Last) → last ≡ At (record { 0 = released })
+less_ago : (now bound released : ℕ) (last : Option Instant) → last ≡ Some (record { 0 = released })
     → LessAgo now bound last → now < released + bound
 less_ago now bound released last is ago = rw is at ago
 

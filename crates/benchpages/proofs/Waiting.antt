@@ -5,12 +5,11 @@ use native.Mathlib.Omega.{arith}
 use mathlib.Core.Path.{◌≡◌, refl, sym, ap, ◌∙◌}
 use mathlib.Core.Logic.{◌⊎◌, inl, inr}
 use lib.ListN.{get_or}
+use Rattle.std.specs.Prelude.{Option, None, Some}
 use Rattle.laws.proofs.Lists.{each_map}
 use Rattle.laws.proofs.Tests.{not_one}
 use Rattle.quantities.specs.declared.Instant.{Instant}
 use Rattle.quantities.proofs.Rows.{length_rows}
-use Rattle.bench.specs.declared.Last.{Last}
-use Rattle.bench.specs.declared.Last.TheVariants.{Never, At}
 use Rattle.bench.specs.declared.RowState.{RowState}
 use Rattle.bench.specs.declared.Bench.{Bench}
 use Rattle.bench.specs.declared.Finish.{Finish}
@@ -29,7 +28,7 @@ use Rattle.benchpages.specs.Polls.{ListsNone, ListsPoll}
 
 -- The row at a place has an unfinished poll that was released at an instant.
 pub record Waits (place released : ℕ) (b : Bench) : Type 0 where
-  pub last_release : (state_at b place).last ≡ At (record { 0 = released })
+  pub last_release : (state_at b place).last ≡ Some (record { 0 = released })
   pub busy : 0 < work (state_at b place)
   pub past : released ≤ b.now.0
 
@@ -45,12 +44,12 @@ pub record WaitsOn (place released : ℕ) (step : Step) : Type 0 where
   pub none_listed : ListsNone place step.finishes
 
 -- two releases that are the same last one are at one instant
-one_instant : (one other : Instant) → At one ≡ At other → one.0 ≡ other.0
+one_instant : (one other : Instant) → Some one ≡ Some other → one.0 ≡ other.0
 one_instant one other e = ap instant_of_lem e
   where
-    instant_of_lem : Last → ℕ
-    instant_of_lem Never = 0
-    instant_of_lem (At at) = at.0
+    instant_of_lem : Option Instant → ℕ
+    instant_of_lem None = 0
+    instant_of_lem (Some at) = at.0
 
 module _ (place released : ℕ) (first : 1 ≤ place) (b : Bench) (kept : Kept b)
     (waits : Waits place released b) where
@@ -104,7 +103,7 @@ module _ (place released : ℕ) (first : 1 ≤ place) (b : Bench) (kept : Kept b
       same_response : (other : Finish) → PollEnds b other → other.place ≡ place
           → other.response.0 ≡ suc b.now.0 - released
       same_response other ends is =
-          let then : (state_at b place).last ≡ At ends.release = rw is at ends.released in
+          let then : (state_at b place).last ≡ Some ends.release = rw is at ends.released in
           let at : Instant = record { 0 = released } in
           rw (one_instant ends.release at (sym then ∙ waits.last_release)) at ends.response
 

@@ -1,5 +1,5 @@
 -- The bench calls: which openings, releases and ticks are taken, and what turns each other one away.
-use Rattle.std.specs.Prelude.{ℕ, ◌+◌, ◌-◌, ◌≤◌, ◌<◌, ◌≡◌, ◌↔◌, Bool, true, false, ◌||◌, List, [], ◌∷◌, eqb, ltb, length, get_or, take, drop, replicate}
+use Rattle.std.specs.Prelude.{ℕ, ◌+◌, ◌-◌, ◌≤◌, ◌<◌, ◌≡◌, ◌↔◌, Bool, true, false, ◌||◌, List, [], ◌∷◌, eqb, ltb, length, get_or, take, drop, replicate, Option, None, Some}
 use Rattle.std.proofs.Math.Option.{none, some}
 use Rattle.laws.specs.Each.{Each}
 use Rattle.quantities.specs.declared.Row.{Row}
@@ -11,8 +11,6 @@ use Rattle.quantities.specs.Table.{rows_of}
 use Rattle.quantities.specs.Paper.{Paper, paper, checked_paper}
 use Rattle.laws.specs.Checks.{Check, FirstFailing, first_failing}
 use Rattle.quantities.specs.Checks.{check}
-use Rattle.bench.specs.declared.Last.{Last}
-use Rattle.bench.specs.declared.Last.TheVariants.{Never, At}
 use Rattle.bench.specs.declared.RowState.{RowState}
 use Rattle.bench.specs.declared.Bench.{Bench}
 use Rattle.bench.specs.declared.Refusal.{Refusal}
@@ -30,7 +28,7 @@ use Rattle.rowpages.specs.Lists.{list_order, fault_at, ListInRange}
 
 -- A row's state before its first release: never released, no demand, nothing that remains.
 abbrev pub never_released : RowState
-never_released = record { last = Never; demand = record { 0 = 0 }; left = record { 0 = 0 } }
+never_released = record { last = None; demand = record { 0 = 0 }; left = record { 0 = 0 } }
 
 -- The rows of the bench's table, and the row and its state at a place: places count from 1.
 abbrev pub rows_on : Bench → List Row
@@ -64,14 +62,14 @@ pub data RecordBroken (b : Bench) : Type 0 where
   faulty_table : (one : Paper) → FirstFailing (list_order b.cores (rows_on b)) one → RecordBroken b
   late_instant : 1000000000 < b.now.0 → RecordBroken b
   released_later :
-      (place : ℕ) (at : Instant) → OnBoard b place → (state_on b place).last ≡ At at → b.now.0 < at.0
+      (place : ℕ) (at : Instant) → OnBoard b place → (state_on b place).last ≡ Some at → b.now.0 < at.0
       → RecordBroken b
   demand_above_cost :
       (place : ℕ) → OnBoard b place → (row_on b place).c.0 < (state_on b place).demand.0 → RecordBroken b
   more_left_than_demand :
       (place : ℕ) → OnBoard b place → (state_on b place).demand.0 < (state_on b place).left.0 → RecordBroken b
   work_never_released :
-      (place : ℕ) → OnBoard b place → (state_on b place).last ≡ Never → 0 < (state_on b place).left.0
+      (place : ℕ) → OnBoard b place → (state_on b place).last ≡ None → 0 < (state_on b place).left.0
       → RecordBroken b
 
 -- The test of 29 that stands first in the order of a call fails exactly for such a record,
@@ -83,9 +81,9 @@ abbrev pub Gives29 : Type 0
 Gives29 = (b : Bench) (call : Call) → (outcome_paper (do_call b call).outcome ≡ paper 29 0) ↔ RecordBroken b
 
 -- 22: fewer than T ticks since the last release. A row's first release is permitted at each instant.
-abbrev pub too_early : (now gap : ℕ) → Last → Bool
-too_early now gap Never = false
-too_early now gap (At at) = ltb now (at.0 + gap)
+abbrev pub too_early : (now gap : ℕ) → Option Instant → Bool
+too_early now gap None = false
+too_early now gap (Some at) = ltb now (at.0 + gap)
 
 -- Order, release: 29, 20, 23, 22, 21;
 abbrev pub release_order : Bench → (place demand : ℕ) → List (Check Paper)
@@ -147,14 +145,14 @@ pub record Ready (b : Bench) (place demand : ℕ) : Type 0 where
 -- Then a release exactly T ticks after the last one is permitted, and each later one; an earlier gives 22.
 abbrev pub GapPermitted : Type 0
 GapPermitted =
-    (b : Bench) (place demand : ℕ) (at : Instant) → Ready b place demand → (state_on b place).last ≡ At at
+    (b : Bench) (place demand : ℕ) (at : Instant) → Ready b place demand → (state_on b place).last ≡ Some at
     → (((release b place demand).outcome ≡ Taken) ↔ (at.0 + (row_on b place).t.0 ≤ b.now.0))
     × (b.now.0 < at.0 + (row_on b place).t.0 → Refuses b 22 place (release b place demand))
 
 -- A row's first release is permitted at each instant.
 abbrev pub FirstReleasePermitted : Type 0
 FirstReleasePermitted =
-    (b : Bench) (place demand : ℕ) → Ready b place demand → (state_on b place).last ≡ Never
+    (b : Bench) (place demand : ℕ) → Ready b place demand → (state_on b place).last ≡ None
     → (release b place demand).outcome ≡ Taken
 
 -- The bench that is opened: the cores and the table given, instant 0, a state for each of 32 rows, and no

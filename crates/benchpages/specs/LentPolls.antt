@@ -1,11 +1,10 @@
 -- Demand 3 said of the bench that a caller lends to one call after another, by what the caller hears.
-use Rattle.std.specs.Prelude.{ℕ, suc, ◌+◌, ◌≤◌, ◌<◌, ◌≡◌, ◌↔◌, List, [], ◌∷◌, ◌++◌, length, take}
+use Rattle.std.specs.Prelude.{ℕ, suc, ◌+◌, ◌≤◌, ◌<◌, ◌≡◌, ◌↔◌, List, [], ◌∷◌, ◌++◌, length, take, Some}
 use Rattle.std.proofs.Math.Option.{some}
 use Rattle.laws.specs.Each.{Each}
 use Rattle.quantities.specs.declared.Instant.{Instant}
 use Rattle.quantities.specs.declared.Table.{Table}
 use Rattle.quantities.specs.Paper.{paper}
-use Rattle.bench.specs.declared.Last.TheVariants.{At}
 use Rattle.bench.specs.declared.Bench.{Bench}
 use Rattle.bench.specs.declared.Finish.{Finish}
 use Rattle.bench.specs.declared.Outcome.{Outcome}
@@ -76,7 +75,7 @@ LentRunsHistory =
 -- The row at a place was released less than `bound` ticks ago.
 pub record ReleasedWithin (bound : ℕ) (b : Bench) (place : ℕ) : Type 0 where
   pub release : Instant
-  pub last_release : (state_on b place).last ≡ At release
+  pub last_release : (state_on b place).last ≡ Some release
   pub less_ago : b.now.0 < release.0 + bound
 
 -- A bound holds for the row at a place in a caller's loop: on the bench at its end, and in each tick heard;

@@ -1,9 +1,8 @@
 -- What a call that is taken does on the bench: a release starts a poll, a tick serves the highest rows.
-use Rattle.std.specs.Prelude.{ℕ, zero, suc, ◌+◌, ◌-◌, ◌≤◌, ◌<◌, min, ◌≡◌, false, List, [], ◌∷◌, length}
+use Rattle.std.specs.Prelude.{ℕ, zero, suc, ◌+◌, ◌-◌, ◌≤◌, ◌<◌, min, ◌≡◌, false, List, [], ◌∷◌, length, Some}
 use Rattle.laws.specs.Each.{Each}
 use Rattle.laws.specs.Member.{Member}
 use Rattle.quantities.specs.declared.Instant.{Instant}
-use Rattle.bench.specs.declared.Last.TheVariants.{At}
 use Rattle.bench.specs.declared.RowState.{RowState}
 use Rattle.bench.specs.declared.Bench.{Bench}
 use Rattle.bench.specs.declared.Finish.{Finish}
@@ -21,7 +20,7 @@ pub record SameBoard (b c : Bench) : Type 0 where
 -- does the clock.
 pub record PollStarted (b : Bench) (place demand : ℕ) (step : Step) : Type 0 where
   pub outcome : step.outcome ≡ Taken
-  pub last : (state_on step.bench place).last ≡ At b.now
+  pub last : (state_on step.bench place).last ≡ Some b.now
   pub released : (state_on step.bench place).demand.0 ≡ demand
   pub remains : (state_on step.bench place).left.0 ≡ demand
   pub others : (other : ℕ) → 1 ≤ other → (other ≡ place → ⊥) → state_on step.bench other ≡ state_on b other
@@ -69,7 +68,7 @@ pub record Finishing (b : Bench) (poll : Finish) : Type 0 where
   pub served : IsServed b poll.place
   pub last_unit : (state_on b poll.place).left.0 ≡ 1
   pub release : Instant
-  pub released : (state_on b poll.place).last ≡ At release
+  pub released : (state_on b poll.place).last ≡ Some release
   pub response : poll.response.0 ≡ b.now.0 + 1 - release.0
 
 -- polls in rising place

@@ -1,12 +1,11 @@
 -- Demand 3 said of polls: a poll that starts on a running board is listed as finished, within its bound.
-use Rattle.std.specs.Prelude.{ℕ, suc, ◌+◌, ◌-◌, ◌≤◌, ◌<◌, min, ◌≡◌, ◌⊎◌, List, [], ◌∷◌, ◌++◌, length, get_or}
+use Rattle.std.specs.Prelude.{ℕ, suc, ◌+◌, ◌-◌, ◌≤◌, ◌<◌, min, ◌≡◌, ◌⊎◌, List, [], ◌∷◌, ◌++◌, length, get_or, Some}
 use Rattle.std.proofs.Math.Option.{some}
 use Rattle.laws.specs.Each.{Each}
 use Rattle.laws.specs.Member.{Member}
 use Rattle.quantities.specs.declared.Table.{Table}
 use Rattle.quantities.specs.Table.{rows_of}
 use Rattle.windows.specs.Answer.{judged}
-use Rattle.bench.specs.declared.Last.TheVariants.{At}
 use Rattle.bench.specs.declared.Bench.{Bench}
 use Rattle.bench.specs.declared.Finish.{Finish}
 use Rattle.bench.specs.declared.Outcome.TheVariants.{Taken}
@@ -60,7 +59,7 @@ pub record EndsWithin (b : Bench) (more : List Call) (place released bound : ℕ
 -- No call that follows lists the row: its poll is unfinished, and was released less than `bound` ticks ago.
 pub record Unfinished (b : Bench) (more : List Call) (place released bound : ℕ) : Type 0 where
   pub none_listed : Each (λ (step : Step). ListsNone place step.finishes) (steps b more)
-  pub last_release : (state_on (after b more) place).last ≡ At (record { 0 = released })
+  pub last_release : (state_on (after b more) place).last ≡ Some (record { 0 = released })
   pub work_left : 0 < (state_on (after b more) place).left.0
   pub in_time : (after b more).now.0 < released + bound
 

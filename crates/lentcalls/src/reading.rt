@@ -2,7 +2,7 @@
 ghost use Rattle.std.specs.Prelude.{◌+◌, ◌≤◌, length};
 
 use crate::{ENTRY_SIZE, HEAD_SIZE};
-use bench::{Bench, Last, RowState};
+use bench::{Bench, RowState};
 use quantities::{Instant, Row, Table, Ticks};
 
 // A number in two bytes.
@@ -43,13 +43,13 @@ fn row_at(bytes: &[u8], at: usize) -> Row
     Row { c: c, d: d, t: t }
 }
 
-fn last_at(bytes: &[u8], at: usize) -> Last
+fn last_at(bytes: &[u8], at: usize) -> Option<Instant>
     requires { at + 9 ≤ length bytes.now }
 {
     if bytes[at] == 0 {
-        return Last::Never;
+        return None;
     }
-    Last::At(Instant(eight_at(bytes, at + 1)))
+    Some(Instant(eight_at(bytes, at + 1)))
 }
 
 fn state_at(bytes: &[u8], at: usize) -> RowState
@@ -84,9 +84,8 @@ fn table_in(frame: &[u8]) -> Table
 fn states_in(frame: &[u8]) -> [RowState; Table::ROW_CAPACITY]
     requires { 1582 ≤ length frame.now }
 {
-    let never = Last::Never;
     let idle = RowState {
-        last: never,
+        last: None,
         demand: Ticks(0),
         left: Ticks(0),
     };

@@ -2,8 +2,8 @@
 ghost use Rattle.std.specs.Prelude.{◌+◌, ◌≤◌, length};
 
 use crate::{BENCH_SIZE, ENTRY_SIZE, HEAD_SIZE};
-use bench::{Bench, Finish, Finishes, Last, Outcome, Refusal, RowState};
-use quantities::{Row, Table};
+use bench::{Bench, Finish, Finishes, Outcome, Refusal, RowState};
+use quantities::{Instant, Row, Table};
 use std::io::Stdout;
 
 // The lowest byte of a number.
@@ -34,10 +34,10 @@ fn put(out: &mut [u8], at: usize, size: usize, number: u64)
 }
 
 // Puts the last release: the bytes are 0 already where there was none.
-fn put_last(out: &mut [u8], at: usize, last: Last)
+fn put_last(out: &mut [u8], at: usize, last: Option<Instant>)
     requires { at + 9 ≤ length out.old }
 {
-    let Last::At(instant) = last else {
+    let Some(instant) = last else {
         return;
     };
     put(out, at + 1, 8, instant.0);

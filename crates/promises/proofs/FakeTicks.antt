@@ -6,6 +6,7 @@ use mathlib.Core.Path.{◌≡◌, refl, sym, ap, ◌∙◌}
 use mathlib.Core.List.{List, [], ◌∷◌, ◌++◌, map, cons-ne-nil, head-eq_of_cons-eq}
 use mathlib.Core.Option.{some}
 use lib.ListN.{replicate}
+use Rattle.std.specs.Prelude.{Some}
 use Rattle.laws.specs.Each.{Each}
 use Rattle.quantities.specs.Row.{row_of, no_row}
 use Rattle.quantities.specs.Table.{rows_of}
@@ -18,7 +19,6 @@ use Rattle.windows.specs.Least.{first_of, least}
 use Rattle.windows.specs.Bound.{window, bounds_below}
 use Rattle.windows.specs.Answer.{verdict, judged_after, judged}
 use Rattle.quantities.specs.declared.Instant.{Instant}
-use Rattle.bench.specs.declared.Last.TheVariants.{At}
 use Rattle.bench.specs.declared.RowState.{RowState}
 use Rattle.bench.specs.declared.Bench.{Bench}
 use Rattle.bench.specs.declared.Finish.{Finish}
@@ -59,7 +59,7 @@ is_opened = refl
 
 -- the bench after a tick and the release of one unit, at instant 1
 abbrev just_released : RowState
-just_released = record { last = At (record { 0 = 1 }); demand = record { 0 = 1 }; left = record { 0 = 1 } }
+just_released = record { last = Some (record { 0 = 1 }); demand = record { 0 = 1 }; left = record { 0 = 1 } }
 
 abbrev b : Bench
 b = later start (just_released ∷ replicate 31 never_released)
@@ -115,7 +115,7 @@ module _ (run : Bench → Step) (fake : ServesOnce run) where
       let at : ◌≡◌ {A = ℕ} 1 within.release.0 = instant_of_lem within.release within.last_release in
       omega (arith, within.less_ago)
     where
-      instant_of_lem : (instant : Instant) → At (record { 0 = 1 }) ≡ At instant → 1 ≡ instant.0
+      instant_of_lem : (instant : Instant) → Some (record { 0 = 1 }) ≡ Some instant → 1 ≡ instant.0
       instant_of_lem instant e = cc
 
   once_breaks_bounds : BoundsKeptWith run → ⊥

@@ -1,5 +1,5 @@
 -- Instants, lengths in ticks and microseconds are three kinds: which of them each quantity is.
-use Rattle.std.specs.Prelude.{ℕ, ◌≡◌, List}
+use Rattle.std.specs.Prelude.{ℕ, ◌≡◌, List, Option, Some}
 use Rattle.quantities.specs.declared.Instant.{Instant}
 use Rattle.quantities.specs.declared.Ticks.{Ticks}
 use Rattle.quantities.specs.declared.Micros.{Micros}
@@ -10,8 +10,6 @@ use Rattle.records.specs.declared.Record.TheVariants.{Board}
 use Rattle.entries.specs.declared.Sheet.{Sheet}
 use Rattle.analysis.specs.declared.Analysis.{Analysis}
 use Rattle.lentrows.specs.declared.Told.{Told}
-use Rattle.bench.specs.declared.Last.{Last}
-use Rattle.bench.specs.declared.Last.TheVariants.{At}
 use Rattle.bench.specs.declared.RowState.{RowState}
 use Rattle.bench.specs.declared.Bench.{Bench}
 use Rattle.bench.specs.declared.Finish.{Finish}
@@ -25,7 +23,7 @@ Is kind quantity = (one : kind) × (quantity ≡ one)
 -- Release and finish are points on the bench's clock.
 pub record Instants : Type 0 where
   pub clock : (b : Bench) → Is Instant b.now
-  pub release : (instant : Instant) → Is Last (At instant)
+  pub release : (instant : Instant) → Is (Option Instant) (Some instant)
 
 -- C, D, T, windows and bounds are lengths; so are a demand, what remains of it, and a response.
 pub record Lengths : Type 0 where

@@ -7,13 +7,13 @@ use native.Mathlib.Omega.{arith}
 use lib.Dec.{eqb, ltb}
 use lib.ListN.{length, get_or, take}
 use borrow.Author.Tests.{ltb-true}
+use Rattle.std.specs.Prelude.{Option, None, Some}
 use Rattle.laws.specs.Each.{Each}
 use Rattle.laws.proofs.Lists.{each_map}
 use Rattle.quantities.specs.declared.Row.{Row}
 use Rattle.quantities.specs.Row.{no_row}
 use Rattle.windows.specs.Choice.{Bounded, bounded, InRange}
-use Rattle.bench.specs.declared.Last.{Last}
-use Rattle.bench.specs.declared.Last.TheVariants.{Never, At}
+use Rattle.quantities.specs.declared.Instant.{Instant}
 use Rattle.bench.specs.declared.RowState.{RowState}
 use Rattle.bench.specs.declared.Finish.{Finish}
 use Rattle.bench.specs.State.{work, idle}
@@ -74,10 +74,10 @@ ended_below place r bounds poll (low, each) = (omega arith, at)
     at (suc k) h e = each k (omega arith) (omega arith)
 
 -- the ticks since a release that was less than the bound ago before this tick
-since_le : (now bound : ℕ) (last : Last) → now < instant_of last + bound → since (suc now) last ≤ bound
+since_le : (now bound : ℕ) (last : Option Instant) → now < instant_of last + bound → since (suc now) last ≤ bound
 unfolding since
-since_le now bound Never h = omega arith
-since_le now bound (At at) h = omega arith
+since_le now bound None h = omega arith
+since_le now bound (Some at) h = omega arith
 
 -- the row itself ended its poll
 pub ended_here : (now place free r : ℕ) (bounds : List ℕ) (st : RowState) → (0 < work st → now < came st + r)

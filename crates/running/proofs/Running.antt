@@ -6,6 +6,7 @@ use mathlib.Core.List.{List, []}
 use mathlib.Core.Option.{some}
 use native.Mathlib.Omega.{arith}
 use lib.ListN.{length, take}
+use Rattle.std.specs.Prelude.{Option, None, Some}
 use Rattle.laws.specs.Checks.{first_failing}
 use Rattle.laws.proofs.Lists.{each_map}
 use Rattle.laws.proofs.Tests.{not_one}
@@ -16,8 +17,7 @@ use Rattle.quantities.specs.Table.{rows_of}
 use Rattle.quantities.specs.Checks.{SoundList}
 use Rattle.quantities.specs.Paper.{Paper, paper}
 use Rattle.quantities.proofs.SoundRows.{sound_rows_each}
-use Rattle.bench.specs.declared.Last.{Last}
-use Rattle.bench.specs.declared.Last.TheVariants.{Never, At}
+use Rattle.quantities.specs.declared.Instant.{Instant}
 use Rattle.bench.specs.declared.Bench.{Bench}
 use Rattle.bench.specs.declared.Refusal.{Refusal}
 use Rattle.bench.specs.declared.Refusal.TheVariants.{Unfinished}
@@ -39,10 +39,10 @@ use Rattle.running.proofs.Below.{opened_sound}
 use Rattle.running.proofs.Calls.{InRun, run_after, run_steps}
 
 -- a release that came less than the bound ago
-pub less_ago : (now bound : ℕ) (last : Last) → is_at last ≡ true → now < instant_of last + bound
+pub less_ago : (now bound : ℕ) (last : Option Instant) → is_at last ≡ true → now < instant_of last + bound
     → LessAgo now bound last
-less_ago now bound Never at h = absurd (not_one cc)
-less_ago now bound (At at) is h = h
+less_ago now bound None at h = absurd (not_one cc)
+less_ago now bound (Some at) is h = h
 
 -- a refusal that is 21 on paper names its row
 named_unfinished : (place other : ℕ) (why : Refusal) → why ≡ Unfinished other → refusal_paper why ≡ paper 21 place

@@ -2,20 +2,20 @@
 use Prim.Native.Nat.{ℕ, ◌-◌}
 use mathlib.Core.Bool.{Bool, true, false}
 use mathlib.Core.List.{List, [], ◌∷◌}
-use Rattle.bench.specs.declared.Last.{Last}
-use Rattle.bench.specs.declared.Last.TheVariants.{Never, At}
+use Rattle.std.specs.Prelude.{Option, None, Some}
+use Rattle.quantities.specs.declared.Instant.{Instant}
 use Rattle.bench.specs.declared.RowState.{RowState}
 use Rattle.bench.specs.State.{work}
 use Rattle.bench.specs.Serving.{unit, after_units}
 
 -- whether there was a release, and its instant
-abbrev pub is_at : Last → Bool
-is_at Never = false
-is_at (At at) = true
+abbrev pub is_at : Option Instant → Bool
+is_at None = false
+is_at (Some at) = true
 
-abbrev pub instant_of : Last → ℕ
-instant_of Never = 0
-instant_of (At at) = at.0
+abbrev pub instant_of : Option Instant → ℕ
+instant_of None = 0
+instant_of (Some at) = at.0
 
 -- whether the row was ever released, and the instant at which its last poll came
 abbrev pub ever : RowState → Bool

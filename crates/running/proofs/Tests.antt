@@ -8,11 +8,11 @@ use native.Mathlib.Omega.{arith}
 use lib.Dec.{eqb, ltb}
 use lib.ListN.{length}
 use borrow.Author.Tests.{ltb-true}
+use Rattle.std.specs.Prelude.{Option, None, Some}
 use Rattle.laws.specs.Checks.{check_for, first_failing}
 use Rattle.laws.proofs.Tests.{not_one}
 use Rattle.quantities.specs.Row.{cost, gap}
-use Rattle.bench.specs.declared.Last.{Last}
-use Rattle.bench.specs.declared.Last.TheVariants.{Never, At}
+use Rattle.quantities.specs.declared.Instant.{Instant}
 use Rattle.bench.specs.declared.Bench.{Bench}
 use Rattle.bench.specs.declared.Refusal.{Refusal}
 use Rattle.bench.specs.declared.Refusal.TheVariants.{NoPlace, Unfinished, TooSoon, WrongDemand}
@@ -48,10 +48,10 @@ last_failed p false true t23 t22 t21 why e n = absurd (omega (arith, same_number
 last_failed p true t20 t23 t22 t21 why e n = absurd (omega (arith, same_number why BrokenRecord e n))
 
 -- a release that is not too soon keeps the gap
-pub gap_since : (now gap : ℕ) (last : Last) → too_soon now gap last ≡ false → is_at last ≡ true
+pub gap_since : (now gap : ℕ) (last : Option Instant) → too_soon now gap last ≡ false → is_at last ≡ true
     → gap ≤ now - instant_of last
-gap_since now gap Never e at = absurd (not_one cc)
-gap_since now gap (At at) e _ = gap_kept now gap at e
+gap_since now gap None e at = absurd (not_one cc)
+gap_since now gap (Some at) e _ = gap_kept now gap at e
 
 -- What 21 means for the row at a place: it is the row named, the gap is kept, and there is work left.
 pub record UnfinishedAt (b : Bench) (place : ℕ) (why : Refusal) : Type 0 where

@@ -1,13 +1,12 @@
 -- Demand 3, the reason for the tool: on a running board no poll of a row takes longer than the row's bound.
-use Rattle.std.specs.Prelude.{ℕ, ◌+◌, ◌-◌, ◌≤◌, ◌<◌, ◌≡◌, List, length, get_or}
+use Rattle.std.specs.Prelude.{ℕ, ◌+◌, ◌-◌, ◌≤◌, ◌<◌, ◌≡◌, List, length, get_or, Option, None, Some}
 use Rattle.std.proofs.Math.Option.{some}
 use Rattle.laws.specs.Each.{Each}
 use Rattle.quantities.specs.declared.Table.{Table}
 use Rattle.quantities.specs.Table.{rows_of}
 use Rattle.quantities.specs.Paper.{paper}
 use Rattle.windows.specs.Answer.{judged}
-use Rattle.bench.specs.declared.Last.{Last}
-use Rattle.bench.specs.declared.Last.TheVariants.{Never, At}
+use Rattle.quantities.specs.declared.Instant.{Instant}
 use Rattle.bench.specs.declared.Bench.{Bench}
 use Rattle.bench.specs.declared.Finish.{Finish}
 use Rattle.bench.specs.State.{state_at, work}
@@ -24,9 +23,9 @@ abbrev pub bound_at : List ℕ → (place : ℕ) → ℕ
 bound_at bounds place = get_or bounds (place - 1) 0
 
 -- A last release was less than `bound` ticks before `now`.
-abbrev pub LessAgo : (now bound : ℕ) → Last → Type 0
-LessAgo now bound Never = ⊥
-LessAgo now bound (At at) = now < at.0 + bound
+abbrev pub LessAgo : (now bound : ℕ) → Option Instant → Type 0
+LessAgo now bound None = ⊥
+LessAgo now bound (Some at) = now < at.0 + bound
 
 -- The row at a place has work left only less than `bound` ticks after its release. From then on its poll is over.
 abbrev pub OverInTime : (place bound : ℕ) → Bench → Type 0
