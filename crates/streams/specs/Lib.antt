@@ -1,2 +1,3 @@
--- How many bytes of a buffer count.
+-- How many bytes of a buffer count, and the frames.
 pub mod Counts
+pub mod Frames
