@@ -14,7 +14,7 @@ ghost use Rattle.analysis.specs.Analysis.{analysis_of};
 ghost use Rattle.analysis.specs.Engine.{largest_window, above, Ready, CanSearch, CanRaise, Raised, CanLoad};
 ghost use Rattle.analysis.specs.Engine.{LoadIs, TakenIs, count_with, least_with, found_of};
 
-use quantities::{Checked, Row, Table, Ticks};
+use quantities::{Row, Table, Ticks};
 use windows::Answer;
 
 // The longest window that the engine tries.
@@ -306,16 +306,11 @@ fn bounds_of(cores: u32, table: Table) -> Analysis
 pub fn analyse(cores: u32, table: Table) -> Analysis
     ensures { result ≡ analysis_of (judged cores (rows_of table)) }
 {
-    let found = table.check(cores);
-    match found {
-        Checked::Faulty(fault) => {
-            let none = Ticks(0);
-            let bounds = [none; Table::ROW_CAPACITY];
-            Analysis {
-                answer: Answer::Refused(fault),
-                bounds: bounds,
-            }
-        }
-        Checked::Sound => bounds_of(cores, table),
+    match table.check(cores) {
+        Ok(()) => bounds_of(cores, table),
+        Err(fault) => Analysis {
+            answer: Answer::Refused(fault),
+            bounds: [Ticks(0); Table::ROW_CAPACITY],
+        },
     }
 }

@@ -1,5 +1,5 @@
 -- What the bench promises, a type for each sentence of document 01. proofs/Rules.antt proves each.
-use Rattle.std.specs.Prelude.{ℕ, ◌+◌, ◌≤◌, ◌<◌, ◌≡◌, false, ◌||◌, List, [], ◌∷◌, map, eqb, ltb, length, None, Some}
+use Rattle.std.specs.Prelude.{ℕ, ◌+◌, ◌≤◌, ◌<◌, ◌≡◌, false, ◌||◌, List, [], ◌∷◌, map, eqb, ltb, length, None, Some, Ok}
 use Rattle.std.proofs.Math.Option.{none, some}
 use Rattle.quantities.specs.Limits.{row_capacity}
 use Rattle.quantities.specs.Row.{cost, gap}
@@ -9,7 +9,6 @@ use Rattle.quantities.specs.Checks.{check, list_checks, SoundList}
 use Rattle.quantities.specs.Paper.{Paper, paper, checked_paper}
 use Rattle.quantities.specs.declared.Instant.{Instant}
 use Rattle.quantities.specs.declared.Table.{Table}
-use Rattle.quantities.specs.declared.Checked.TheVariants.{Sound}
 use Rattle.bench.specs.declared.Bench.{Bench}
 use Rattle.bench.specs.declared.Refusal.{Refusal}
 use Rattle.bench.specs.declared.Refusal.TheVariants.{BrokenRecord}
@@ -87,7 +86,7 @@ abbrev pub SoundTableOpened : Type 0
 SoundTableOpened =
     (cores : ℕ) (table : Table)
     → SoundList cores (rows_of table)
-    → (opening_of cores table ≡ record { found = Sound; bench = empty_bench cores table })
+    → (opening_of cores table ≡ record { found = Ok tt; bench = empty_bench cores table })
     × (opened cores table ≡ some (empty_bench cores table))
 
 -- The bench holds a table that passed checks 1 to 6, whatever the calls; an instant starting at 0; and for

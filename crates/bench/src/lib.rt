@@ -11,7 +11,7 @@ ghost use Rattle.bench.specs.History.{do_call, call_of};
 ghost use Rattle.bench.specs.Step.{empty_bench, no_bench, opening_of, released_of, ticked_of, started, release, tick};
 
 use checks::{rows_broken, too_soon};
-use quantities::{Checked, Instant, Table, Ticks};
+use quantities::{Fault, Instant, Table, Ticks};
 use tick::serve;
 
 mod checks;
@@ -76,7 +76,7 @@ pub struct Finishes {
 // The answer to an opening: what checks 1 to 6 found and, where they found nothing, the bench at instant 0.
 #[derive(Clone, Copy)]
 pub struct Opening {
-    pub found: Checked,
+    pub found: Result<(), Fault>,
     pub bench: Bench,
 }
 
@@ -175,21 +175,15 @@ impl Bench {
     pub fn opened(cores: u32, table: Table) -> Opening
         ensures { result ≡ opening_of cores table }
     {
-        let found = table.check(cores);
-        match found {
-            Checked::Sound => {}
-            Checked::Faulty(fault) => {
-                let none = Bench::none();
-                return Opening {
-                    found: Checked::Faulty(fault),
-                    bench: none,
-                };
-            }
+        if let Err(fault) = table.check(cores) {
+            return Opening {
+                found: Err(fault),
+                bench: Bench::none(),
+            };
         }
-        let bench = Bench::empty(cores, table);
         Opening {
-            found: Checked::Sound,
-            bench: bench,
+            found: Ok(()),
+            bench: Bench::empty(cores, table),
         }
     }
 
@@ -197,12 +191,8 @@ impl Bench {
     pub fn broken(self) -> bool
         ensures { result ≡ broken self }
     {
-        let found = self.table.check(self.cores);
-        match found {
-            Checked::Sound => {}
-            Checked::Faulty(_) => {
-                return true;
-            }
+        if let Err(_) = self.table.check(self.cores) {
+            return true;
         }
         if Bench::LAST_INSTANT < self.now.0 {
             return true;

@@ -1,11 +1,10 @@
 -- The bench calls: which openings, releases and ticks are taken, and what turns each other one away.
-use Rattle.std.specs.Prelude.{ℕ, ◌+◌, ◌-◌, ◌≤◌, ◌<◌, ◌≡◌, ◌↔◌, Bool, true, false, ◌||◌, List, [], ◌∷◌, eqb, ltb, length, get_or, take, drop, replicate, Option, None, Some}
+use Rattle.std.specs.Prelude.{ℕ, ◌+◌, ◌-◌, ◌≤◌, ◌<◌, ◌≡◌, ◌↔◌, Bool, true, false, ◌||◌, List, [], ◌∷◌, eqb, ltb, length, get_or, take, drop, replicate, Option, None, Some, Ok, Err}
 use Rattle.std.proofs.Math.Option.{none, some}
 use Rattle.laws.specs.Each.{Each}
 use Rattle.quantities.specs.declared.Row.{Row}
 use Rattle.quantities.specs.declared.Table.{Table}
 use Rattle.quantities.specs.declared.Instant.{Instant}
-use Rattle.quantities.specs.declared.Checked.TheVariants.{Sound, Faulty}
 use Rattle.quantities.specs.Row.{row_of}
 use Rattle.quantities.specs.Table.{rows_of}
 use Rattle.quantities.specs.Paper.{Paper, paper, checked_paper}
@@ -168,7 +167,7 @@ blank_bench = new_bench 0 (record { count = 0; rows = replicate 32 (row_of 0 0 0
 -- Opening a bench checks 1 to 6 in list order and gives no bench on refusal: each call on what stands there
 -- gives 29.
 pub record NotOpened (cores : ℕ) (table : Table) (one : Paper) : Type 0 where
-  pub found : (opening_of cores table).found ≡ Faulty (fault_at one.number one.place)
+  pub found : (opening_of cores table).found ≡ Err (fault_at one.number one.place)
   pub on_paper : checked_paper (opening_of cores table).found ≡ paper one.number one.place
   pub stands_for_none : (opening_of cores table).bench ≡ blank_bench
   pub no_bench_holds : opened cores table ≡ none
@@ -183,7 +182,7 @@ OpeningRefused =
 abbrev pub OpeningTaken : Type 0
 OpeningTaken =
     (cores : ℕ) (table : Table) → ListInRange cores (rows_of table)
-    → (opening_of cores table ≡ record { found = Sound; bench = new_bench cores table })
+    → (opening_of cores table ≡ record { found = Ok tt; bench = new_bench cores table })
     × (opened cores table ≡ some (new_bench cores table))
 
 -- Only such a table is opened, and no call changes the board.

@@ -11,7 +11,7 @@ ghost use Rattle.windows.specs.Judgement.{row_of_index};
 ghost use Rattle.lentrows.specs.Loaded.{loaded};
 ghost use Rattle.lentrows.specs.Lent.{LentAnalysis, front_replaced, shown_by, told_of};
 
-use quantities::{Checked, Fault, Row, Table, Ticks};
+use quantities::{Fault, Row, Table, Ticks};
 use windows::Answer;
 
 // What the caller is told: the answer, the bounds, and how many of these are to be written.
@@ -78,12 +78,8 @@ fn refused(fault: Fault) -> Told
 pub fn answer_for(cores: u32, table: Table, entries: usize) -> Told
     ensures { result ≡ told_of (judged_into cores entries (rows_of table)) }
 {
-    let checked = table.check(cores);
-    match checked {
-        Checked::Sound => {}
-        Checked::Faulty(fault) => {
-            return refused(fault);
-        }
+    if let Err(fault) = table.check(cores) {
+        return refused(fault);
     }
     if entries < table.count {
         return refused(Fault::WholeList(7));

@@ -1,4 +1,5 @@
 -- An answer that is the one a contract names is the one that specs/Promised.antt promises.
+use Rattle.std.specs.Prelude.{Result}
 use Prim.Native.Nat.{ℕ}
 use native.Mathlib.Omega.{arith}
 use native.Mathlib.Decide.{dec_le}
@@ -11,7 +12,7 @@ use Rattle.laws.specs.Checks.{first_failing}
 use Rattle.laws.proofs.Tests.{not_one}
 use Rattle.quantities.specs.declared.Row.{Row}
 use Rattle.quantities.specs.declared.Table.{Table}
-use Rattle.quantities.specs.declared.Checked.{Checked}
+use Rattle.quantities.specs.declared.Fault.{Fault}
 use Rattle.quantities.specs.Table.{rows_of, empty_table, with_row}
 use Rattle.quantities.specs.Checks.{list_checks, room_checks, list_fault, lent_fault, checked_of}
 use Rattle.quantities.specs.Lengths.{numbers}
@@ -107,7 +108,7 @@ analysis_answer cores table r is =
           );
     })
 
-pub table_answer : (cores : ℕ) (table : Table) (r : Checked) → r ≡ checked_of (list_fault cores (rows_of table))
+pub table_answer : (cores : ℕ) (table : Table) (r : Result (Unit {0}) Fault) → r ≡ checked_of (list_fault cores (rows_of table))
     → TableAnswer cores table r
 table_answer cores table r is =
     record {

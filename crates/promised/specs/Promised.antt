@@ -1,13 +1,13 @@
 -- What the public functions answer, in the promises' own words: a record for each.
 use Rattle.std.specs.Prelude.{ℕ, suc, ◌+◌, ◌*◌, ◌≤◌, ◌<◌, ◌≡◌, ◌↔◌, Bool, true, false, cond, List, [], ◌∷◌, ◌++◌, eqb, length, take, drop, replicate}
+use Rattle.std.specs.Prelude.{Result, Ok, Err}
 use Rattle.laws.specs.Each.{Each}
 use Rattle.laws.specs.Member.{Member}
 use Rattle.laws.specs.Permuted.{Permuted}
 use Rattle.quantities.specs.declared.Micros.{Micros}
 use Rattle.quantities.specs.declared.Row.{Row}
 use Rattle.quantities.specs.declared.Table.{Table}
-use Rattle.quantities.specs.declared.Checked.{Checked}
-use Rattle.quantities.specs.declared.Checked.TheVariants.{Sound, Faulty}
+use Rattle.quantities.specs.declared.Fault.{Fault}
 use Rattle.quantities.specs.Row.{row_of}
 use Rattle.quantities.specs.Table.{rows_of}
 use Rattle.quantities.specs.Paper.{Paper, paper, checked_paper}
@@ -85,10 +85,10 @@ pub record AnalysisAnswer (cores : ℕ) (table : Table) (r : Analysis) : Type 0 
       → (r.answer ≡ Refused (fault_at one.number one.place)) × InEntries [] (numbers r.bounds)
 
 -- `Table::check`: checks 1 to 6 in the order of a list.
-pub record TableAnswer (cores : ℕ) (table : Table) (r : Checked) : Type 0 where
-  pub in_range : ListInRange cores (rows_of table) → r ≡ Sound
+pub record TableAnswer (cores : ℕ) (table : Table) (r : Result (Unit {0}) Fault) : Type 0 where
+  pub in_range : ListInRange cores (rows_of table) → r ≡ Ok tt
   pub faulty : (one : Paper) → FirstFailing (list_order cores (rows_of table)) one
-      → r ≡ Faulty (fault_at one.number one.place)
+      → r ≡ Err (fault_at one.number one.place)
 
 -- `Table::empty` has no row. `Table::with_row` has one row more, below the others; a full table then counts
 -- 33 rows, so that 1 turns it away.
@@ -175,14 +175,14 @@ EndAnswer found r = (r ≡ true) ↔ ((count : ℕ) × (found ≡ End count))
 
 -- A table with a fault gives no bench: what stands there is broken, so that each call on it gives 29.
 pub record NoBench (one : Paper) (r : Opening) : Type 0 where
-  pub found : r.found ≡ Faulty (fault_at one.number one.place)
+  pub found : r.found ≡ Err (fault_at one.number one.place)
   pub on_paper : checked_paper r.found ≡ paper one.number one.place
   pub blank : r.bench ≡ blank_bench
   pub no_bench_holds : RecordBroken r.bench
 
 -- `Bench::opened`: a table in range is opened at instant 0, with no row released.
 pub record OpeningAnswer (cores : ℕ) (table : Table) (r : Opening) : Type 0 where
-  pub in_range : ListInRange cores (rows_of table) → r ≡ record { found = Sound; bench = new_bench cores table }
+  pub in_range : ListInRange cores (rows_of table) → r ≡ record { found = Ok tt; bench = new_bench cores table }
   pub faulty : (one : Paper) → FirstFailing (list_order cores (rows_of table)) one → NoBench one r
 
 -- `Bench::broken`: whether 29 is due.

@@ -19,7 +19,7 @@ use analysis::Analysis;
 use bench::{Bench, Opening, Released, Request, Ticked};
 use entries::Sheet;
 use lentrows::Told;
-use quantities::{Checked, Instant, Micros, Row, Table, Ticks};
+use quantities::{Fault, Instant, Micros, Row, Table, Ticks};
 use records::{Record, RowFields};
 use replay::Replayed;
 use sheet::{FirstSheet, Outcome};
@@ -48,7 +48,7 @@ pub fn analyse_table(cores: u32, table: Table) -> Analysis
     analysis::analyse(cores, table)
 }
 
-pub fn check_table(cores: u32, table: Table) -> Checked
+pub fn check_table(cores: u32, table: Table) -> Result<(), Fault>
     ensures { TableAnswer cores table result }
 {
     table.check(cores)

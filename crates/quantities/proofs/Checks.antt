@@ -1,4 +1,5 @@
 -- Laws of the checks: which check of a row fails first, and which of several lists of checks.
+use Rattle.std.specs.Prelude.{Ok, Err}
 use Prim.Native.Nat.{ℕ, zero, suc, ◌≤◌, ◌<◌}
 use native.Mathlib.Omega.{arith}
 use mathlib.Core.Path.{◌≡◌, refl, ap}
@@ -18,7 +19,6 @@ use Rattle.quantities.specs.Checks.{row_fault, rows_fault, list_fault, lent_faul
 use Rattle.quantities.specs.declared.Row.{Row}
 use Rattle.quantities.specs.declared.Fault.{Fault}
 use Rattle.quantities.specs.declared.Fault.TheVariants.{WholeList, OneRow}
-use Rattle.quantities.specs.declared.Checked.TheVariants.{Sound, Faulty}
 
 -- a check that fails at a row's place is a fault of that row
 pub fault_at_row : (number place : ℕ) → 0 < place → fault_from (some (paper number place)) ≡ some (OneRow number place)
@@ -145,12 +145,12 @@ module _ (cores entries : ℕ) (rows : List Row) where
       rw (fault_in_second (list_checks cores rows) (room_checks entries rows) e, le-ltb entries (length rows) h) refl
 
 -- What the code's answer says of the fault.
-pub checked_sound : (found : Option Fault) → checked_of found ≡ Sound → found ≡ none
+pub checked_ok : (found : Option Fault) → checked_of found ≡ Ok tt → found ≡ none
 unfolding checked_of
-checked_sound none e = refl
-checked_sound (some f) e = absurd (not_one cc)
+checked_ok none e = refl
+checked_ok (some f) e = absurd (not_one cc)
 
-pub checked_faulty : (found : Option Fault) (f : Fault) → checked_of found ≡ Faulty f → found ≡ some f
+pub checked_err : (found : Option Fault) (f : Fault) → checked_of found ≡ Err f → found ≡ some f
 unfolding checked_of
-checked_faulty none f e = absurd (not_one cc)
-checked_faulty (some g) f e = cc
+checked_err none f e = absurd (not_one cc)
+checked_err (some g) f e = cc

@@ -1,5 +1,6 @@
 -- Checks 1 to 7 of a row list, in their order, and the fault of a list: the first check that fails.
 use Rattle.std.specs.Prelude.{ℕ, zero, suc, ◌≤◌, ◌<◌, Bool, true, false, ◌||◌, List, [], ◌∷◌, ◌++◌, eqb, ltb, length}
+use Rattle.std.specs.Prelude.{Result, Ok, Err}
 use Rattle.std.proofs.Math.Option.{Option, none, some}
 use Rattle.laws.specs.Checks.{Check, check_for, first_failing}
 use Rattle.quantities.specs.Limits.{row_capacity, core_limit, largest_gap}
@@ -8,8 +9,6 @@ use Rattle.quantities.specs.Paper.{Paper, paper}
 use Rattle.quantities.specs.declared.Row.{Row}
 use Rattle.quantities.specs.declared.Fault.{Fault}
 use Rattle.quantities.specs.declared.Fault.TheVariants.{WholeList, OneRow}
-use Rattle.quantities.specs.declared.Checked.{Checked}
-use Rattle.quantities.specs.declared.Checked.TheVariants.{Sound, Faulty}
 
 -- a check of document 01: its number, the place it speaks of (0 for the whole list), and whether it fails
 abbrev pub check : ℕ → ℕ → Bool → Check Paper
@@ -86,6 +85,6 @@ pub record SoundList (cores : ℕ) (rows : List Row) : Type 0 where
   pub sound_rows : SoundRows rows
 
 -- a fault, or none, as the code's functions answer it
-unfoldable pub checked_of : Option Fault → Checked
-checked_of none = Sound
-checked_of (some fault) = Faulty fault
+unfoldable pub checked_of : Option Fault → Result (Unit {0}) Fault
+checked_of none = Ok tt
+checked_of (some fault) = Err fault

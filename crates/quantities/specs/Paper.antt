@@ -1,9 +1,7 @@
 -- The numbers of document 01 for an answer: every refusal has a number and a place.
-use Rattle.std.specs.Prelude.{ℕ}
+use Rattle.std.specs.Prelude.{ℕ, Result, Ok, Err}
 use Rattle.quantities.specs.declared.Fault.{Fault}
 use Rattle.quantities.specs.declared.Fault.TheVariants.{WholeList, OneRow}
-use Rattle.quantities.specs.declared.Checked.{Checked}
-use Rattle.quantities.specs.declared.Checked.TheVariants.{Sound, Faulty}
 
 -- A number and a place of document 01.
 pub record Paper : Type 0 where
@@ -23,6 +21,6 @@ fault_paper (WholeList number) = paper number 0
 fault_paper (OneRow number place) = paper number place
 
 -- what the checks found, on paper
-unfoldable pub checked_paper : Checked → Paper
-checked_paper Sound = no_refusal
-checked_paper (Faulty fault) = fault_paper fault
+unfoldable pub checked_paper : Result (Unit {0}) Fault → Paper
+checked_paper (Ok passed) = no_refusal
+checked_paper (Err fault) = fault_paper fault

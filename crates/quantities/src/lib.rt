@@ -8,19 +8,19 @@ ghost use Rattle.quantities.specs.Table.{rows_of, empty_table, with_row};
 ghost use Rattle.quantities.specs.Checks.{row_fault, rows_fault, list_fault, checked_of};
 
 // A point on the bench's clock.
-#[derive(Clone, Copy)]
+#[derive(Clone, Copy, Debug, PartialEq, Eq, PartialOrd, Ord, Hash)]
 pub struct Instant(pub u64);
 
 // A length of time in ticks: C, D, T, a window, a bound.
-#[derive(Clone, Copy)]
+#[derive(Clone, Copy, Debug, PartialEq, Eq, PartialOrd, Ord, Hash)]
 pub struct Ticks(pub u64);
 
 // A length of time in microseconds, as a sheet gives it.
-#[derive(Clone, Copy)]
+#[derive(Clone, Copy, Debug, PartialEq, Eq, PartialOrd, Ord, Hash)]
 pub struct Micros(pub u64);
 
 // A landing station as the analysis sees it: worst-case time, deadline, smallest gap.
-#[derive(Clone, Copy)]
+#[derive(Clone, Copy, Debug, PartialEq, Eq)]
 pub struct Row {
     pub c: Ticks,
     pub d: Ticks,
@@ -28,24 +28,17 @@ pub struct Row {
 }
 
 // Rows in priority order. `count` says how many there are; those past the capacity are counted and not kept.
-#[derive(Clone, Copy)]
+#[derive(Clone, Copy, Debug, PartialEq, Eq)]
 pub struct Table {
     pub count: usize,
     pub rows: [Row; Table::ROW_CAPACITY],
 }
 
 // What is wrong with a row list, by the number of document 01: the whole list, or the row at a place.
-#[derive(Clone, Copy)]
+#[derive(Clone, Copy, Debug, PartialEq, Eq)]
 pub enum Fault {
     WholeList(u32),
     OneRow(u32, usize),
-}
-
-// What checks 1 to 6 find in a table.
-#[derive(Clone, Copy)]
-pub enum Checked {
-    Sound,
-    Faulty(Fault),
 }
 
 impl Row {
@@ -73,45 +66,35 @@ impl Row {
 }
 
 // Checks 3 to 6 of the row at a place, which is the last of its table or not: no check of today asks.
-fn check_row(row: Row, place: usize, last: bool) -> Checked
+fn check_row(row: Row, place: usize, last: bool) -> Result<(), Fault>
     requires { 0 < place }
     ensures { result ≡ checked_of (row_fault place last row) }
 {
     if row.c.0 == 0 {
-        return Checked::Faulty(Fault::OneRow(3, place));
+        return Err(Fault::OneRow(3, place));
     }
     if row.costs_more(row.d) {
-        return Checked::Faulty(Fault::OneRow(4, place));
+        return Err(Fault::OneRow(4, place));
     }
     if row.t.0 < row.d.0 {
-        return Checked::Faulty(Fault::OneRow(5, place));
+        return Err(Fault::OneRow(5, place));
     }
     if Table::LARGEST_GAP < row.t.0 {
-        return Checked::Faulty(Fault::OneRow(6, place));
+        return Err(Fault::OneRow(6, place));
     }
-    Checked::Sound
+    Ok(())
 }
 
 // Checks 3 to 6 of a table's rows, from the top, row by row.
-fn check_rows(table: Table) -> Checked
+fn check_rows(table: Table) -> Result<(), Fault>
     requires { table.count ≤ row_capacity }
     ensures { result ≡ checked_of (rows_fault 1 (rows_of table)) }
 {
-    let mut i: usize = 0;
-    while i < table.count {
-        let row = table.rows[i];
+    for (i, row) in table.rows[..table.count].iter().enumerate() {
         let place = i + 1;
-        let last = place == table.count;
-        let found = check_row(row, place, last);
-        match found {
-            Checked::Sound => {}
-            Checked::Faulty(fault) => {
-                return Checked::Faulty(fault);
-            }
-        }
-        i += 1;
+        check_row(*row, place, place == table.count)?;
     }
-    Checked::Sound
+    Ok(())
 }
 
 impl Table {
@@ -170,20 +153,20 @@ impl Table {
     }
 
     // Checks 1 to 6 of the table's rows for a board with this many cores, in the order of a list.
-    pub fn check(self, cores: u32) -> Checked
+    pub fn check(self, cores: u32) -> Result<(), Fault>
         ensures { result ≡ checked_of (list_fault cores (rows_of self)) }
     {
         if self.count == 0 {
-            return Checked::Faulty(Fault::WholeList(1));
+            return Err(Fault::WholeList(1));
         }
         if Table::ROW_CAPACITY < self.count {
-            return Checked::Faulty(Fault::WholeList(1));
+            return Err(Fault::WholeList(1));
         }
         if cores == 0 {
-            return Checked::Faulty(Fault::WholeList(2));
+            return Err(Fault::WholeList(2));
         }
         if Table::CORE_LIMIT < cores {
-            return Checked::Faulty(Fault::WholeList(2));
+            return Err(Fault::WholeList(2));
         }
         check_rows(self)
     }

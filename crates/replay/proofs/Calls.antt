@@ -1,4 +1,5 @@
 -- Laws of a replay: one call after the other, and that it is the run of the definition.
+use Rattle.std.specs.Prelude.{Ok, Err}
 use Prim.Native.Nat.{ℕ, suc, ◌+◌, ◌*◌, ◌-◌, ◌≤◌, ◌<◌}
 use native.Mathlib.Omega.{arith}
 use native.Mathlib.Nat.{add-zero}
@@ -13,8 +14,7 @@ use Rattle.quantities.specs.Table.{rows_of}
 use Rattle.quantities.specs.Checks.{list_fault}
 use Rattle.quantities.specs.declared.Table.{Table}
 use Rattle.quantities.specs.declared.Fault.{Fault}
-use Rattle.quantities.specs.declared.Checked.TheVariants.{Sound, Faulty}
-use Rattle.quantities.proofs.Checks.{checked_sound, checked_faulty}
+use Rattle.quantities.proofs.Checks.{checked_ok, checked_err}
 use Rattle.bench.specs.declared.Bench.{Bench}
 use Rattle.bench.specs.declared.Opening.{Opening}
 use Rattle.bench.specs.declared.Request.{Request}
@@ -92,14 +92,14 @@ replay_run whole (request ∷ rest) b place at out h =
 
 -- A replay whose bench does not open, and one whose bench does.
 module _ (cores : ℕ) (table : Table) (calls out : List ℕ) (r : Opening) (er : r ≡ opening_of cores table) where
-  pub replay_not_opened : (fault : Fault) → r.found ≡ Faulty fault → replay cores table calls out ≡ record { answer = NotOpened fault; out = out }
+  pub replay_not_opened : (fault : Fault) → r.found ≡ Err fault → replay cores table calls out ≡ record { answer = NotOpened fault; out = out }
   unfolding opening_of replay replay_after
-  replay_not_opened fault e = rw (checked_faulty (list_fault cores (rows_of table)) fault (sym (ap (λ o. o.found) er) ∙ e), replay_after)
+  replay_not_opened fault e = rw (checked_err (list_fault cores (rows_of table)) fault (sym (ap (λ o. o.found) er) ∙ e), replay_after)
 
-  pub replay_opened : r.found ≡ Sound → replay cores table calls out ≡ replay_from r.bench calls out
+  pub replay_opened : r.found ≡ Ok tt → replay cores table calls out ≡ replay_from r.bench calls out
   unfolding opening_of replay replay_after
   replay_opened e =
       let sound = sym (ap (λ o. o.found) er) ∙ e in
-      let None-found = checked_sound (list_fault cores (rows_of table)) sound in
+      let None-found = checked_ok (list_fault cores (rows_of table)) sound in
       let opened_bench : r.bench ≡ empty_bench cores table = ap (λ o. o.bench) (er ∙ opening_sound cores table sound) in
       rw (opened_bench, None-found, replay_after)

@@ -9,7 +9,7 @@ ghost use Rattle.replay.specs.Format.{request_in, request_read, byte_of, poll_by
 ghost use Rattle.replay.specs.Replay.{replay_from, replay};
 
 use bench::{Bench, Finish, Finishes, Outcome, Refusal, Request};
-use quantities::{Checked, Fault, Table, Ticks};
+use quantities::{Fault, Table, Ticks};
 
 // What stands where a call should be.
 #[derive(Clone, Copy)]
@@ -196,13 +196,8 @@ pub fn replay(cores: u32, table: Table, calls: &[u8], out: &mut [u8]) -> Replaye
     ensures out_after { out.new ≡ (replay cores table calls.now out.old).out }
 {
     let opening = Bench::opened(cores, table);
-    let found = opening.found;
-    match found {
-        Checked::Faulty(fault) => {
-            return Replayed::NotOpened(fault);
-        }
-        Checked::Sound => {}
+    match opening.found {
+        Ok(()) => run_calls(opening.bench, calls, out),
+        Err(fault) => Replayed::NotOpened(fault),
     }
-    let bench = opening.bench;
-    run_calls(bench, calls, out)
 }

@@ -1,9 +1,8 @@
 -- The table: its named limits, the rows of a table that is made row by row, and its own checks 1 to 6.
-use Rattle.std.specs.Prelude.{ℕ, ◌≤◌, ◌<◌, ◌≡◌, [], ◌∷◌, ◌++◌, length, take}
+use Rattle.std.specs.Prelude.{ℕ, ◌≤◌, ◌<◌, ◌≡◌, [], ◌∷◌, ◌++◌, length, take, Ok, Err}
 use Rattle.quantities.specs.Paper.{Paper}
 use Rattle.quantities.specs.declared.Row.{Row}
 use Rattle.quantities.specs.declared.Table.{Table}
-use Rattle.quantities.specs.declared.Checked.TheVariants.{Sound, Faulty}
 use Rattle.quantities.specs.Limits.{row_capacity, core_limit, largest_gap}
 use Rattle.quantities.specs.Table.{rows_of, empty_table, with_row}
 use Rattle.laws.specs.Checks.{FirstFailing}
@@ -31,6 +30,6 @@ pub record TableMade : Type 0 where
 -- `Table::check` answers checks 1 to 6 in the order of a list.
 pub record TableChecked : Type 0 where
   pub faulty : (cores : ℕ) (table : Table) (one : Paper) → FirstFailing (list_order cores (rows_of table)) one
-      → checked_of (list_fault cores (rows_of table)) ≡ Faulty (fault_at one.number one.place)
+      → checked_of (list_fault cores (rows_of table)) ≡ Err (fault_at one.number one.place)
   pub sound : (cores : ℕ) (table : Table) → ListInRange cores (rows_of table)
-      → checked_of (list_fault cores (rows_of table)) ≡ Sound
+      → checked_of (list_fault cores (rows_of table)) ≡ Ok tt

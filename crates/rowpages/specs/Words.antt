@@ -1,12 +1,11 @@
 -- The words that the other pages share, by index: the first check that fails, each, a member, permuted.
-use Rattle.std.specs.Prelude.{ℕ, ◌<◌, ◌≡◌, ◌↔◌, Bool, true, false, List, length, get_or}
+use Rattle.std.specs.Prelude.{ℕ, ◌<◌, ◌≡◌, ◌↔◌, Bool, true, false, List, length, get_or, Ok}
 use Rattle.laws.specs.Each.{Each}
 use Rattle.laws.specs.Member.{Member}
 use Rattle.laws.specs.Permuted.{Permuted}
 use Rattle.laws.specs.Checks.{Check, FirstFailing}
 use Rattle.quantities.specs.Checks.{check}
 use Rattle.quantities.specs.Paper.{Paper, paper, checked_paper}
-use Rattle.quantities.specs.declared.Checked.TheVariants.{Sound as Passed}
 use Rattle.windows.specs.Answer.{answer_paper}
 use Rattle.windows.specs.declared.Answer.TheVariants.{Shown}
 use Rattle.sheet.specs.Reader.{verdict_paper}
@@ -33,7 +32,7 @@ pub record FirstMeans : Type 0 where
 pub record NothingRefused : Type 0 where
   pub of_a_list : answer_paper Shown ≡ paper 0 0
   pub of_a_sheet : verdict_paper Sound ≡ paper 0 0
-  pub of_a_table : checked_paper Passed ≡ paper 0 0
+  pub of_a_table : checked_paper (Ok tt) ≡ paper 0 0
 
 -- Each element of a list has a property: the one at each index does.
 abbrev pub EachMeans : Type 1

@@ -7,7 +7,7 @@ ghost use Rattle.windows.specs.Window.{interference};
 use quantities::{Fault, Ticks};
 
 // The answer to a row list: every row has its bound, a row has none, by its number and place, or the list has a fault.
-#[derive(Clone, Copy)]
+#[derive(Clone, Copy, Debug, PartialEq, Eq)]
 pub enum Answer {
     Shown,
     NotShown(u32, usize),

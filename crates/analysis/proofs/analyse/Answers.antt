@@ -10,7 +10,7 @@ use Rattle.quantities.specs.Checks.{list_fault}
 use Rattle.quantities.specs.Lengths.{ticks, in_array}
 use Rattle.quantities.specs.declared.Row.{Row}
 use Rattle.quantities.specs.declared.Fault.{Fault}
-use Rattle.quantities.proofs.Checks.{checked_sound, checked_faulty}
+use Rattle.quantities.proofs.Checks.{checked_ok, checked_err}
 use Rattle.quantities.proofs.Sound.{sound_list_means}
 use Rattle.quantities.proofs.Rows.{length_rows}
 use Rattle.windows.specs.Bound.{bounds_below}
@@ -29,19 +29,19 @@ refused cores rows fault e = rw (judged_faulty cores rows fault e) refl
 pub bounds_of-requires : goal.bounds_of-requires
 bounds_of-requires c =
     (sound_list_means c.args.cores (rows_of c.args.table)).0
-    (checked_sound _ (sym c.check-found.ensures ∙ c.in-Sound.is))
+    (checked_ok _ (sym c.check.ensures ∙ c.in-Ok.is))
 
-pub returns-in-Faulty : goal.returns-in-Faulty
-returns-in-Faulty c =
-    let fault = c.in-Faulty.fault in
+pub returns-in-Err : goal.returns-in-Err
+returns-in-Err c =
+    let fault = c.in-Err.fault in
     refused c.args.cores (rows_of c.args.table) fault
-    (checked_faulty _ fault (sym c.check-found.ensures ∙ c.in-Faulty.is))
+    (checked_err _ fault (sym c.check.ensures ∙ c.in-Err.is))
 
-pub returns-in-Sound : goal.returns-in-Sound
-returns-in-Sound c =
+pub returns-in-Ok : goal.returns-in-Ok
+returns-in-Ok c =
     let rows = rows_of c.args.table in
     let sound =
     (sound_list_means c.args.cores rows).0
-    (checked_sound _ (sym c.check-found.ensures ∙ c.in-Sound.is)) in
+    (checked_ok _ (sym c.check.ensures ∙ c.in-Ok.is)) in
     c.bounds_of.ensures
     ∙ ap analysis_of (sym (judged_sound c.args.cores rows sound ∙ ap (λ n. verdict n (bounds_below c.args.cores [] rows)) (length_rows c.args.table)))

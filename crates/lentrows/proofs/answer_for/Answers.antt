@@ -8,7 +8,7 @@ use lib.ListN.{length}
 use Rattle.quantities.specs.Table.{rows_of}
 use Rattle.quantities.specs.Checks.{list_fault}
 use Rattle.quantities.specs.declared.Row.{Row}
-use Rattle.quantities.proofs.Checks.{checked_sound, checked_faulty}
+use Rattle.quantities.proofs.Checks.{checked_ok, checked_err}
 use Rattle.quantities.proofs.Sound.{sound_list_means}
 use Rattle.quantities.proofs.Rows.{length_rows}
 use Rattle.windows.specs.Answer.{judged, judged_into}
@@ -33,14 +33,14 @@ told M entries rows sound room a engine n count =
     rw (into_room M entries rows sound room, as_many)
     (ap (λ (z : Analysis). record { answer = z.answer; bounds = z.bounds; shown = length (judged M rows).bounds }) engine)
 
-pub returns-in-Faulty : goal.returns-in-Faulty
-returns-in-Faulty c =
-    let fault = c.in-Faulty.fault in
+pub returns-in-Err : goal.returns-in-Err
+returns-in-Err c =
+    let fault = c.in-Err.fault in
     c.refused.ensures
     ∙ ap told_of
     (sym
     (into_faulty c.args.cores c.args.entries (rows_of c.args.table) fault
-    (checked_faulty _ fault (sym c.check-checked.ensures ∙ c.in-Faulty.is))))
+    (checked_err _ fault (sym c.check.ensures ∙ c.in-Err.is))))
 
 pub returns-then-entries-table : goal.returns-then-entries-table
 returns-then-entries-table c =
@@ -50,14 +50,14 @@ returns-then-entries-table c =
     ∙ ap told_of
     (sym
     (into_short c.args.cores c.args.entries rows
-    (checked_sound _ (sym c.check-checked.ensures ∙ c.in-Sound.is))
+    (checked_ok _ (sym c.check.ensures ∙ c.in_default.is))
     short))
 
 pub returns : goal.returns
 returns c =
     let rows = rows_of c.args.table in
     let found = c.analyse-analysis.result in
-    let sound = checked_sound (list_fault c.args.cores rows) (sym c.check-checked.ensures ∙ c.in-Sound.is) in
+    let sound = checked_ok (list_fault c.args.cores rows) (sym c.check.ensures ∙ c.in_default.is) in
     let count = c.shown_by-shown.ensures ∙ ap (shown_by found.answer) (sym (length_rows c.args.table)) in
     let roomy : length rows ≤ c.args.entries = omega (arith, c.if-entries-table.false, length_rows c.args.table) in
     told c.args.cores c.args.entries rows sound roomy found c.analyse-analysis.ensures c.shown_by-shown.result count

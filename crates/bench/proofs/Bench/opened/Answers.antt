@@ -3,10 +3,10 @@ use mathlib.Core.Path.{sym, ◌∙◌}
 use Rattle.bench.proofs.Open.{opening_faulty, opening_sound}
 use Rattle.bench.proofs.Bench.opened.Goals as goal
 
-pub returns-in-Faulty : goal.returns-in-Faulty
-returns-in-Faulty c =
-    simp c.none-none.ensures (sym (opening_faulty c.args.cores c.args.table c.in-Faulty.fault (sym c.check-found.ensures ∙ c.in-Faulty.is)))
+pub returns-in-Err : goal.returns-in-Err
+returns-in-Err c =
+    simp c.none.ensures (sym (opening_faulty c.args.cores c.args.table c.in-Err.fault (sym c.check.ensures ∙ c.in-Err.is)))
 
 pub returns : goal.returns
 returns c =
-    simp c.empty-bench.ensures (sym (opening_sound c.args.cores c.args.table (sym c.check-found.ensures ∙ c.in-Sound.is)))
+    simp c.empty.ensures (sym (opening_sound c.args.cores c.args.table (sym c.check.ensures ∙ c.in_default.is)))
