@@ -1,115 +1,87 @@
-//! A bench of the bytes of a frame.
-ghost use Rattle.std.specs.Prelude.{◌+◌, ◌≤◌, length};
-
-use crate::{ENTRY_SIZE, HEAD_SIZE};
+//! A bench and a call, read from bytes: numbers are unsigned, most significant byte first.
 use bench::{Bench, RowState};
 use quantities::{Instant, Row, Table, Ticks};
+use std::io;
+use std::io::Read;
 
-// A number in two bytes.
-pub fn two(high: u8, low: u8) -> usize {
-    high as usize * 256 + low as usize
+// The kinds of call that are no tick.
+const RELEASE: u8 = 1;
+
+const RUN: u8 = 3;
+
+// A call on a lent bench.
+#[derive(Clone, Copy)]
+pub enum Call {
+    Release(usize, Ticks),
+    Run(Ticks),
+    Tick,
 }
 
-// A number in four bytes.
-fn four(first: u8, second: u8, third: u8, fourth: u8) -> u32 {
-    ((first as u32 * 256 + second as u32) * 256 + third as u32) * 256 + fourth as u32
+fn read_array<const N: usize>(bytes: &mut impl Read) -> io::Result<[u8; N]> {
+    let mut array = [0u8; N];
+    bytes.read_exact(&mut array)?;
+    Ok(array)
 }
 
-// A number in eight bytes, of its two halves.
-fn eight(high: u32, low: u32) -> u64 {
-    high as u64 * 4_294_967_296 + low as u64
+fn read_number(bytes: &mut impl Read) -> io::Result<u64> {
+    let array = read_array(bytes)?;
+    Ok(u64::from_be_bytes(array))
 }
 
-// The number in the four bytes from `at` on.
-fn four_at(bytes: &[u8], at: usize) -> u32
-    requires { at + 4 ≤ length bytes.now }
-{
-    four(bytes[at], bytes[at + 1], bytes[at + 2], bytes[at + 3])
+fn read_row(bytes: &mut impl Read) -> io::Result<Row> {
+    let c = Ticks(read_number(bytes)?);
+    let d = Ticks(read_number(bytes)?);
+    let t = Ticks(read_number(bytes)?);
+    Ok(Row { c, d, t })
 }
 
-// The number in the eight bytes from `at` on.
-pub fn eight_at(bytes: &[u8], at: usize) -> u64
-    requires { at + 8 ≤ length bytes.now }
-{
-    eight(four_at(bytes, at), four_at(bytes, at + 4))
+fn read_state(bytes: &mut impl Read) -> io::Result<RowState> {
+    let [was_released]: [u8; 1] = read_array(bytes)?;
+    let last = Instant(read_number(bytes)?);
+    let demand = Ticks(read_number(bytes)?);
+    let left = Ticks(read_number(bytes)?);
+    Ok(RowState {
+        last: if was_released == 0 { None } else { Some(last) },
+        demand,
+        left,
+    })
 }
 
-fn row_at(bytes: &[u8], at: usize) -> Row
-    requires { at + 49 ≤ length bytes.now }
-{
-    let c = Ticks(eight_at(bytes, at));
-    let d = Ticks(eight_at(bytes, at + 8));
-    let t = Ticks(eight_at(bytes, at + 16));
-    Row { c: c, d: d, t: t }
-}
-
-fn last_at(bytes: &[u8], at: usize) -> Option<Instant>
-    requires { at + 9 ≤ length bytes.now }
-{
-    if bytes[at] == 0 {
-        return None;
-    }
-    Some(Instant(eight_at(bytes, at + 1)))
-}
-
-fn state_at(bytes: &[u8], at: usize) -> RowState
-    requires { at + 49 ≤ length bytes.now }
-{
-    let last = last_at(bytes, at + 24);
-    let demand = Ticks(eight_at(bytes, at + 33));
-    let left = Ticks(eight_at(bytes, at + 41));
-    RowState {
-        last: last,
-        demand: demand,
-        left: left,
-    }
-}
-
-// The table, with a row for every entry: those past the count are kept too, so that a call can be seen to leave them.
-fn table_in(frame: &[u8]) -> Table
-    requires { 1582 ≤ length frame.now }
-{
+// Reads a bench's head, then a row and its state for every entry: those past the count are kept too, so that a call can
+// be seen to leave them.
+pub fn read_bench(bytes: &mut impl Read) -> io::Result<Bench> {
+    let cores = u32::from_be_bytes(read_array(bytes)?);
+    let now = Instant(read_number(bytes)?);
     let mut table = Table::empty();
-    let mut i: usize = 0;
-    while i < Table::ROW_CAPACITY {
-        let row = row_at(frame, HEAD_SIZE + ENTRY_SIZE * i);
-        table.rows[i] = row;
-        i += 1;
-    }
-    table.count = two(frame[12], frame[13]);
-    table
-}
-
-// The states of all entries.
-fn states_in(frame: &[u8]) -> [RowState; Table::ROW_CAPACITY]
-    requires { 1582 ≤ length frame.now }
-{
+    table.count = usize::from(u16::from_be_bytes(read_array(bytes)?));
     let idle = RowState {
         last: None,
         demand: Ticks(0),
         left: Ticks(0),
     };
     let mut states = [idle; Table::ROW_CAPACITY];
-    let mut i: usize = 0;
-    while i < Table::ROW_CAPACITY {
-        let state = state_at(frame, HEAD_SIZE + ENTRY_SIZE * i);
+    for i in 0..Table::ROW_CAPACITY {
+        let row = read_row(bytes)?;
+        let state = read_state(bytes)?;
+        table.rows[i] = row;
         states[i] = state;
-        i += 1;
     }
-    states
+    Ok(Bench {
+        cores,
+        table,
+        now,
+        states,
+    })
 }
 
-pub fn bench_in(frame: &[u8]) -> Bench
-    requires { 1582 ≤ length frame.now }
-{
-    let cores = four_at(frame, 0);
-    let now = Instant(eight_at(frame, 4));
-    let table = table_in(frame);
-    let states = states_in(frame);
-    Bench {
-        cores: cores,
-        table: table,
-        now: now,
-        states: states,
-    }
+// Reads a call: its kind, a place and a demand. A kind that no other call has is a tick, which looks at neither.
+pub fn read_call(bytes: &mut impl Read) -> io::Result<Call> {
+    let [kind]: [u8; 1] = read_array(bytes)?;
+    let place = read_number(bytes)? as usize;
+    let demand = Ticks(read_number(bytes)?);
+    Ok(match kind {
+        RELEASE => Call::Release(place, demand),
+        RUN => Call::Run(demand),
+        _ => Call::Tick,
+    })
 }

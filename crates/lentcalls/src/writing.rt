@@ -1,81 +1,43 @@
 //! The answers to calls and the bench after them, written to standard output.
-ghost use Rattle.std.specs.Prelude.{◌+◌, ◌≤◌, length};
-
-use crate::{BENCH_SIZE, ENTRY_SIZE, HEAD_SIZE};
+use crate::BENCH_SIZE;
 use bench::{Bench, Finish, Finishes, Outcome, Refusal, RowState};
-use quantities::{Instant, Row, Table};
-use std::io::Stdout;
+use quantities::Row;
+use std::io;
+use std::io::{Stdout, Write};
 
-// The lowest byte of a number.
-fn low_byte(number: u64) -> u8 {
-    (number % 256) as u8
+fn put_number(out: &mut impl Write, number: u64) -> io::Result<()> {
+    out.write_all(&number.to_be_bytes())
 }
 
-// The lowest byte of a place or a count.
-fn place_byte(place: usize) -> u8 {
-    (place % 256) as u8
+fn put_row(out: &mut impl Write, row: Row) -> io::Result<()> {
+    put_number(out, row.c.0)?;
+    put_number(out, row.d.0)?;
+    put_number(out, row.t.0)
 }
 
-fn wide(place: usize) -> u64 {
-    place as u64
+fn put_state(out: &mut impl Write, state: RowState) -> io::Result<()> {
+    out.write_all(&[u8::from(state.last.is_some())])?;
+    put_number(out, state.last.map_or(0, |last| last.0))?;
+    put_number(out, state.demand.0)?;
+    put_number(out, state.left.0)
 }
 
-// Puts a number into this many bytes from `at` on, from the last of them to the first.
-fn put(out: &mut [u8], at: usize, size: usize, number: u64)
-    requires { at + size ≤ length out.old }
-{
-    let mut left = number;
-    let mut i = size;
-    while i > 0 {
-        i -= 1;
-        out[at + i] = low_byte(left);
-        left = left / 256;
+fn put_bench(out: &mut impl Write, bench: &Bench) -> io::Result<()> {
+    out.write_all(&bench.cores.to_be_bytes())?;
+    put_number(out, bench.now.0)?;
+    let [.., high, low] = bench.table.count.to_be_bytes();
+    out.write_all(&[high, low])?;
+    for (row, state) in bench.table.rows.iter().zip(&bench.states) {
+        put_row(out, *row)?;
+        put_state(out, *state)?;
     }
+    Ok(())
 }
 
-// Puts the last release: the bytes are 0 already where there was none.
-fn put_last(out: &mut [u8], at: usize, last: Option<Instant>)
-    requires { at + 9 ≤ length out.old }
-{
-    let Some(instant) = last else {
-        return;
-    };
-    put(out, at + 1, 8, instant.0);
-    out[at] = 1;
-}
-
-fn put_entry(out: &mut [u8], at: usize, row: Row, state: RowState)
-    requires { at + 49 ≤ length out.old }
-{
-    let last = state.last;
-    put(out, at, 8, row.c.0);
-    put(out, at + 8, 8, row.d.0);
-    put(out, at + 16, 8, row.t.0);
-    put_last(out, at + 24, last);
-    put(out, at + 33, 8, state.demand.0);
-    put(out, at + 41, 8, state.left.0);
-}
-
-fn put_entries(out: &mut [u8], bench: Bench)
-    requires { 1582 ≤ length out.old }
-{
-    let table = bench.table;
-    let mut i: usize = 0;
-    while i < Table::ROW_CAPACITY {
-        let row = table.rows[i];
-        let state = bench.states[i];
-        put_entry(out, HEAD_SIZE + ENTRY_SIZE * i, row, state);
-        i += 1;
-    }
-}
-
-pub fn write_bench(output: Stdout, bench: Bench) -> bool {
+pub fn write_bench(output: &mut Stdout, bench: &Bench) -> io::Result<()> {
     let mut out = [0u8; BENCH_SIZE];
-    put(&mut out, 0, 4, bench.cores as u64);
-    put(&mut out, 4, 8, bench.now.0);
-    put(&mut out, 12, 2, wide(bench.table.count));
-    put_entries(&mut out, bench);
-    output.write_all(&out).is_ok()
+    put_bench(&mut &mut out[..], bench)?;
+    output.write_all(&out)
 }
 
 // The number that answers a call: 0 where it was taken.
@@ -108,33 +70,27 @@ fn place_of(outcome: Outcome) -> usize {
     }
 }
 
-// The outcome of a call, and how many polls ended.
-pub fn write_outcome(output: Stdout, outcome: Outcome, ended: usize) -> bool {
+// The outcome of a call: its number, its place, and how many polls ended.
+pub fn write_outcome(output: &mut Stdout, outcome: Outcome, ended: usize) -> io::Result<()> {
+    let [.., ended] = ended.to_be_bytes();
     let mut out = [0u8; 10];
     out[0] = number_of(outcome);
-    out[9] = place_byte(ended);
-    put(&mut out, 1, 8, wide(place_of(outcome)));
-    output.write_all(&out).is_ok()
+    out[1..9].copy_from_slice(&place_of(outcome).to_be_bytes());
+    out[9] = ended;
+    output.write_all(&out)
 }
 
-fn write_poll(output: Stdout, poll: Finish) -> bool {
+fn write_poll(output: &mut Stdout, poll: Finish) -> io::Result<()> {
+    let [.., place] = poll.place.to_be_bytes();
     let mut out = [0u8; 9];
-    out[0] = place_byte(poll.place);
-    put(&mut out, 1, 8, poll.response.0);
-    output.write_all(&out).is_ok()
+    out[0] = place;
+    out[1..].copy_from_slice(&poll.response.0.to_be_bytes());
+    output.write_all(&out)
 }
 
-pub fn write_polls(output: Stdout, polls: Finishes) -> bool {
-    let mut i: usize = 0;
-    while i < Table::ROW_CAPACITY {
-        if polls.count <= i {
-            return true;
-        }
-        let poll = polls.list[i];
-        if !write_poll(output, poll) {
-            return false;
-        }
-        i += 1;
+pub fn write_polls(output: &mut Stdout, polls: Finishes) -> io::Result<()> {
+    for poll in polls.list.iter().take(polls.count) {
+        write_poll(output, *poll)?;
     }
-    true
+    Ok(())
 }

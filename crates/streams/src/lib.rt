@@ -46,7 +46,7 @@ fn read_frame(input: Stdin, room: &mut [u8; FRAME_ROOM]) -> Option<usize>
     Some(size)
 }
 
-/// Hands each frame of the input to `answer`, until the input ends or an answer fails: with the error of that answer.
+// Hands each frame of the input to `answer`, until the input ends or an answer fails: with the error of that answer.
 pub fn answer_frames<F: FnMut(&[u8]) -> io::Result<()>>(
     input: Stdin,
     mut answer: F,
@@ -67,7 +67,7 @@ pub fn answer_frames<F: FnMut(&[u8]) -> io::Result<()>>(
     Ok(())
 }
 
-/// Writes the frame of these bytes.
+// Writes the frame of these bytes.
 pub fn write_frame<W: Write>(output: &mut W, bytes: &[u8]) -> io::Result<()>
     requires { length bytes.now < 2 ^ 16 }
     ensures { OnOk result (Appends (W.contents output.old) (W.contents output.new) (frame_of bytes.now)) }
