@@ -10,6 +10,7 @@ use lib.Dec.{eqb, leb, ltb}
 use lib.ListN.{length, get_or, take}
 use lib.Seq.{get_or-take, take-take, take-set-lt, take-set-le}
 use borrow.Author.Tests.{lt-ltb, le-ltb, ltb-true, leb-true, leb-false, ne_eqb}
+use Rattle.std.specs.Prelude.{Ok}
 use Rattle.laws.specs.Checks.{Check, check_for, first_failing}
 use Rattle.laws.proofs.Tests.{and_true, not_one}
 use Rattle.quantities.specs.Row.{cost, no_row}
@@ -19,7 +20,6 @@ use Rattle.quantities.specs.declared.Table.{Table}
 use Rattle.bench.specs.declared.Bench.{Bench}
 use Rattle.bench.specs.declared.Refusal.{Refusal}
 use Rattle.bench.specs.declared.Refusal.TheVariants.{NoPlace, Unfinished, TooSoon, WrongDemand, BrokenRecord}
-use Rattle.bench.specs.declared.Outcome.TheVariants.{Taken}
 use Rattle.bench.specs.State.{idle, work, rows, row_at, broken}
 use Rattle.bench.specs.Refusal.{soon_at, full_at, release_tests, tick_tests}
 use Rattle.bench.specs.Serving.{units}
@@ -180,7 +180,7 @@ module _ {Good : Bench → Type 0} (steady : Steady Good) (k : ℕ) (b b' : Benc
           (agree_started steady k b b' a place demand (ltb-true 0 place low) (leb-true place k high), refl)
       at (ticked q may) c same =
           rw (taken_step_lem b' ticks (sym same ∙ q))
-          (agree_moved, ap (λ polls. record { outcome = Taken; finishes = polls }) same_finished)
+          (agree_moved, ap (λ polls. record { outcome = Ok tt; finishes = polls }) same_finished)
 
   -- A call that does not concern them leaves them as they were.
   unconcerned_agree : (call : Call) → concerns k call ≡ false → Agree k (do_call b call).bench b'

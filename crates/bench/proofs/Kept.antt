@@ -8,7 +8,7 @@ use mathlib.Core.Option.{Option as Maybe, none, some}
 use lib.Dec.{ltb}
 use lib.ListN.{length, get_or, set, replicate, length-set, length-replicate}
 use borrow.Author.Tests.{le-ltb, ltb-false}
-use Rattle.std.specs.Prelude.{Option, None, Some}
+use Rattle.std.specs.Prelude.{Option, None, Some, Err}
 use Rattle.laws.specs.Checks.{check_for, first_failing}
 use Rattle.laws.proofs.Checks.{told_has, first_passes}
 use Rattle.laws.proofs.Tests.{or_false, not_one}
@@ -24,7 +24,6 @@ use Rattle.bench.specs.declared.RowState.{RowState}
 use Rattle.bench.specs.declared.Bench.{Bench}
 use Rattle.bench.specs.declared.Refusal.{Refusal}
 use Rattle.bench.specs.declared.Refusal.TheVariants.{ClockEnd, BrokenRecord}
-use Rattle.bench.specs.declared.Outcome.TheVariants.{Refused}
 use Rattle.bench.specs.State.{last_instant, idle, work, rows, row_at, last_broken, row_broken, rows_broken, broken}
 use Rattle.bench.specs.Refusal.{release_tests, tick_tests}
 use Rattle.bench.specs.Serving.{after_units, worked}
@@ -218,11 +217,11 @@ call_not_29 b (releases place demand) = release_not_29 b place demand
 call_not_29 b ticks = tick_not_29 b
 
 -- A call on a well kept bench never gives 29.
-pub kept_no_29 : (b : Bench) (call : Call) → Kept b → (do_call b call).outcome ≡ Refused BrokenRecord → ⊥
+pub kept_no_29 : (b : Bench) (call : Call) → Kept b → (do_call b call).outcome ≡ Err BrokenRecord → ⊥
 unfolding taken
 kept_no_29 b call k = at (call_case b call)
   where
-    at : {one : Call} {step : Step} → CallCase b one step → step.outcome ≡ Refused BrokenRecord → ⊥
+    at : {one : Call} {step : Step} → CallCase b one step → step.outcome ≡ Err BrokenRecord → ⊥
     at {one} (refused why q) e =
         let same : why ≡ BrokenRecord = cc in
         call_not_29 b one (whole_unbroken b k.whole) (q ∙ ap some same)
@@ -230,7 +229,7 @@ kept_no_29 b call k = at (call_case b call)
     at (ticked q may) e = not_one cc
 
 pub opened_no_29 : (cores : ℕ) (table : Table) (b : Bench) → opened cores table ≡ some b → (calls : List Call) (call : Call)
-    → (do_call (after b calls) call).outcome ≡ Refused BrokenRecord → ⊥
+    → (do_call (after b calls) call).outcome ≡ Err BrokenRecord → ⊥
 opened_no_29 cores table b o calls call = kept_no_29 (after b calls) call (kept_after calls b (kept_opened cores table b o))
 
 -- At the last instant a tick is refused and nothing moves.

@@ -16,7 +16,7 @@ use Rattle.quantities.specs.declared.Table.{Table}
 use Rattle.bench.specs.declared.RowState.{RowState}
 use Rattle.bench.specs.declared.Bench.{Bench}
 use Rattle.bench.specs.declared.Finish.{Finish}
-use Rattle.bench.specs.declared.Outcome.{Outcome}
+use Rattle.bench.specs.Refusal.{Outcome}
 use Rattle.bench.specs.State.{idle, state_at}
 use Rattle.bench.specs.Step.{Step, served}
 use Rattle.bench.specs.TickRule.{Gets, PollEnds, RisingPlaces}

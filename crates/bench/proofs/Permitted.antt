@@ -7,6 +7,7 @@ use mathlib.Core.Option.{Option, none, some}
 use lib.Dec.{eqb, ltb}
 use lib.ListN.{length, get_or}
 use borrow.Author.Tests.{eq-eqb, ne_eqb, lt-ltb, le-ltb, ltb-false, eqb-false}
+use Rattle.std.specs.Prelude.{Ok, Err}
 use Rattle.laws.specs.Checks.{first_failing}
 use Rattle.laws.proofs.Checks.{none_fails}
 use Rattle.laws.proofs.Tests.{or_false, not_one}
@@ -16,9 +17,9 @@ use Rattle.quantities.proofs.Rows.{length_rows, row_at_lem}
 use Rattle.bench.specs.declared.Bench.{Bench}
 use Rattle.bench.specs.declared.Refusal.{Refusal}
 use Rattle.bench.specs.declared.Refusal.TheVariants.{NoPlace, Unfinished, TooSoon, WrongDemand, ClockEnd, BrokenRecord}
-use Rattle.bench.specs.declared.Outcome.TheVariants.{Taken, Refused}
 use Rattle.bench.specs.State.{last_instant, rows, row_at, state_at, work, broken}
 use Rattle.bench.specs.Refusal.{too_soon, release_tests, tick_tests, outcome_of}
+use Rattle.bench.proofs.State.{few_rows}
 
 -- A release of `demand` at `place` is permitted.
 pub record MayRelease (b : Bench) (place demand : ℕ) : Type 0 where
@@ -58,12 +59,12 @@ may_tick b e0 =
     record { whole = f1; clock = eqb-false b.now.0 last_instant f2 }
 
 -- what an outcome says of the refusal
-pub outcome_taken : (found : Option Refusal) → outcome_of found ≡ Taken → found ≡ none
+pub outcome_taken : (found : Option Refusal) → outcome_of found ≡ Ok tt → found ≡ none
 unfolding outcome_of
 outcome_taken none e = refl
 outcome_taken (some why) e = absurd (not_one cc)
 
-pub outcome_refused : (found : Option Refusal) (why : Refusal) → outcome_of found ≡ Refused why → found ≡ some why
+pub outcome_refused : (found : Option Refusal) (why : Refusal) → outcome_of found ≡ Err why → found ≡ some why
 unfolding outcome_of
 outcome_refused none why e = absurd (not_one cc)
 outcome_refused (some other) why e = cc
@@ -123,3 +124,8 @@ module _ (b : Bench) (place demand : ℕ) where
       pub release_permitted : too_soon b.now.0 (gap kept_row) (state_at b place).last ≡ false → work (state_at b place) ≤ 0 → first_failing (release_tests b place demand) ≡ none
       unfolding release_tests first_failing
       release_permitted e w = rw (whole, ne_eqb place 0 n, length_rows b.table, le-ltb b.table.count place h, ne_eqb demand 0 d, same_row, le-ltb (cost kept_row) demand f, e, le-ltb 0 (work (state_at b place)) w)
+
+-- what decides whether a release, or a tick, is taken
+pub ruleset release_cases = (few_rows, release_29, release_20_zero, release_20_above, release_23_zero, release_23_above, release_22, release_21, release_permitted)
+
+pub ruleset tick_cases = (tick_29, tick_24, tick_permitted)

@@ -48,3 +48,5 @@ turn_one free state f l = rw (unit_one free (work state) f l, last_unit (work st
     last_unit zero h = absurd (omega arith)
     last_unit (suc zero) h = refl
     last_unit (suc (suc n)) h = ne_eqb (suc (suc n) - 1) 0 (omega arith) ∙ sym (ne_eqb (suc (suc n)) 1 (omega arith))
+
+pub ruleset turn_cases = (turn_no_core, turn_no_work, turn_one)

@@ -7,6 +7,7 @@ use mathlib.Core.List.{List, [], ◌∷◌}
 use mathlib.Core.Option.{Option, none, some}
 use lib.ListN.{length, length-set}
 use borrow.Author.Tests.{ne_eqb, le-ltb}
+use Rattle.std.specs.Prelude.{Ok}
 use Rattle.laws.proofs.Lists.{get_d_repeated}
 use Rattle.quantities.specs.Limits.{row_capacity}
 use Rattle.quantities.specs.Row.{cost, gap}
@@ -20,7 +21,6 @@ use Rattle.laws.proofs.Tests.{not_one}
 use Rattle.quantities.proofs.Sound.{sound_list_means}
 use Rattle.quantities.proofs.Paper.{turned_away}
 use Rattle.bench.specs.declared.Bench.{Bench}
-use Rattle.bench.specs.declared.Outcome.TheVariants.{Taken}
 use Rattle.bench.specs.State.{idle, rows, row_at, state_at, work}
 use Rattle.bench.specs.Refusal.{too_soon, release_tests, tick_tests}
 use Rattle.bench.specs.Refusal.{refusal_paper, outcome_paper}
@@ -149,7 +149,7 @@ ticks_by_rule b long p =
 -- A row that is ready is released where the gap is kept.
 ready_taken : (b : Bench) (place demand : ℕ) → Ready b place demand
     → too_soon b.now.0 (gap (row_at b place)) (state_at b place).last ≡ false
-    → (release b place demand).outcome ≡ Taken
+    → (release b place demand).outcome ≡ Ok tt
 unfolding call_tests release_tests first_failing
 ready_taken b place demand r kept =
     let no_zero = ne_eqb place 0 (λ e. omega (arith, r.first)) in

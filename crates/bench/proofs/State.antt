@@ -74,6 +74,10 @@ pub whole_unbroken : (b : Bench) → Whole b → broken b ≡ false
 unfolding broken is_fault
 whole_unbroken b w = rw (w.sound, le-ltb last_instant b.now.0 w.in_time, w.in_order)
 
+-- where it is not broken, the table's rows are all kept
+pub few_rows : (b : Bench) → broken b ≡ false → b.table.count ≤ row_capacity
+few_rows b whole = sound_fits b.cores b.table (whole_of b whole).sound
+
 -- Whether the record is broken, by the cases of the code.
 module _ (b : Bench) where
   pub broken_table : (fault : Fault) → list_fault b.cores (rows b) ≡ some fault → broken b ≡ true

@@ -3,6 +3,7 @@ use Prim.Native.Nat.{ℕ}
 use mathlib.Core.Path.{◌≡◌, refl, ap}
 use mathlib.Core.List.{[]}
 use mathlib.Core.Option.{Option, none, some}
+use Rattle.std.specs.Prelude.{Ok, Err}
 use Rattle.laws.specs.Checks.{first_failing}
 use Rattle.laws.proofs.Tests.{not_one}
 use Rattle.bench.specs.declared.Bench.{Bench}
@@ -10,17 +11,16 @@ use Rattle.bench.specs.declared.Finishes.{Finishes}
 use Rattle.bench.specs.declared.Released.{Released}
 use Rattle.bench.specs.Ended.{finishes_of}
 use Rattle.bench.specs.declared.Refusal.{Refusal}
-use Rattle.bench.specs.declared.Outcome.TheVariants.{Taken, Refused}
 use Rattle.bench.specs.Refusal.{release_tests, tick_tests}
 use Rattle.bench.specs.Step.{Step, unless_refused, started, release, moved, taken, tick, released_of, ticked_of}
 use Rattle.bench.specs.History.{Call, releases, ticks, call_tests, do_call}
 use Rattle.bench.proofs.Permitted.{MayRelease, may_release, MayTick, may_tick}
 
 abbrev pub refused_step : Refusal → Bench → Step
-refused_step why b = record { outcome = Refused why; finishes = []; bench = b }
+refused_step why b = record { outcome = Err why; finishes = []; bench = b }
 
 abbrev pub released_step : Bench → (place demand : ℕ) → Step
-released_step b place demand = record { outcome = Taken; finishes = []; bench = started b place demand }
+released_step b place demand = record { outcome = Ok tt; finishes = []; bench = started b place demand }
 
 -- a call that is taken
 abbrev pub taken_step : Bench → Call → Step
@@ -62,12 +62,12 @@ taken_step_lem b (releases place demand) e = rw (e, unless_refused)
 taken_step_lem b ticks e = rw (e, unless_refused)
 
 -- A refused call changes nothing on the bench.
-pub refused_same : (b : Bench) (call : Call) (why : Refusal) → (do_call b call).outcome ≡ Refused why
+pub refused_same : (b : Bench) (call : Call) (why : Refusal) → (do_call b call).outcome ≡ Err why
     → do_call b call ≡ refused_step why b
 unfolding taken
 refused_same b call why = at (call_case b call)
   where
-    at : {one : Call} {step : Step} → CallCase b one step → step.outcome ≡ Refused why → step ≡ refused_step why b
+    at : {one : Call} {step : Step} → CallCase b one step → step.outcome ≡ Err why → step ≡ refused_step why b
     at (refused other q) e = let same : other ≡ why = cc in ap (λ w. refused_step w b) same
     at (released q may) e = absurd (not_one cc)
     at (ticked q may) e = absurd (not_one cc)

@@ -6,6 +6,7 @@ use native.Mathlib.Omega.{arith}
 use mathlib.Core.Path.{◌≡◌, sym, ◌∙◌}
 use mathlib.Core.List.{List, [], ◌++◌}
 use lib.ListN.{length, get_or, take, drop, set, length-set}
+use Rattle.std.specs.Prelude.{Ok}
 use Rattle.quantities.specs.Limits.{row_capacity}
 use Rattle.quantities.proofs.Rows.{length_rows}
 use Rattle.bench.specs.declared.RowState.{RowState}
@@ -13,7 +14,6 @@ use Rattle.bench.specs.declared.Bench.{Bench}
 use Rattle.bench.specs.declared.Finish.{Finish}
 use Rattle.bench.specs.declared.Finishes.{Finishes}
 use Rattle.bench.specs.declared.Turn.{Turn}
-use Rattle.bench.specs.declared.Outcome.TheVariants.{Taken}
 use Rattle.bench.specs.State.{idle}
 use Rattle.bench.specs.Serving.{finish_of, turn_of}
 use Rattle.bench.specs.Ended.{finishes_of, noted}
@@ -58,7 +58,7 @@ serves_next b states free f i s h h' t et p ep g eg =
 
 -- past the last row the tick is made
 pub serves_last : (b : Bench) (states : List RowState) (free : ℕ) (f : Finishes) (i : ℕ) → Serves b states free f i → b.table.count ≤ i → b.table.count ≤ row_capacity
-    → ticked_of (taken b) ≡ record { outcome = Taken; finishes = f; bench = later b states }
+    → ticked_of (taken b) ≡ record { outcome = Ok tt; finishes = f; bench = later b states }
 unfolding ticked_of taken moved served
 serves_last b states free f i s h h' =
     let n : b.table.count - i ≡ 0 = omega arith in

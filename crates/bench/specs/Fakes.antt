@@ -1,16 +1,15 @@
 -- Fake benches of document 01, which the tick rule has to catch.
-use Rattle.std.specs.Prelude.{ℕ, zero, suc, ◌≡◌, [], map, length}
+use Rattle.std.specs.Prelude.{ℕ, zero, suc, ◌≡◌, [], map, length, Ok}
 use Rattle.quantities.specs.Limits.{row_capacity}
 use Rattle.bench.specs.declared.Bench.{Bench}
 use Rattle.bench.specs.declared.Finish.{Finish}
-use Rattle.bench.specs.declared.Outcome.TheVariants.{Taken}
 use Rattle.bench.specs.Step.{Step, later, tick}
 use Rattle.bench.specs.History.{ticks}
 use Rattle.bench.specs.Rules.{PermittedCall, TicksByRule}
 
 -- the bench one instant later, with no row served
 unfoldable pub idled : Bench → Step
-idled b = record { outcome = Taken; finishes = []; bench = later b b.states }
+idled b = record { outcome = Ok tt; finishes = []; bench = later b b.states }
 
 -- serves rightly in its first tick and idles later
 unfoldable pub once : Bench → Step

@@ -1,14 +1,12 @@
 -- Histories of calls: the run of a history from a bench, refused calls included, and what it did to a row.
-use Rattle.std.specs.Prelude.{ℕ, ◌+◌, ◌-◌, ◌≡◌, Bool, true, false, ◌&&◌, List, [], ◌∷◌, eqb, leb, ltb, get_or, take}
+use Rattle.std.specs.Prelude.{ℕ, ◌+◌, ◌-◌, ◌≡◌, Bool, true, false, ◌&&◌, List, [], ◌∷◌, eqb, leb, ltb, get_or, take, Ok, Err}
 use Rattle.laws.specs.Checks.{Check}
 use Rattle.bench.specs.declared.Bench.{Bench}
 use Rattle.bench.specs.declared.Refusal.{Refusal}
 use Rattle.bench.specs.declared.Request.{Request}
 use Rattle.bench.specs.declared.Request.TheVariants.{Release, Tick}
-use Rattle.bench.specs.declared.Outcome.{Outcome}
-use Rattle.bench.specs.declared.Outcome.TheVariants.{Taken, Refused}
 use Rattle.bench.specs.declared.Finish.{Finish}
-use Rattle.bench.specs.Refusal.{release_tests, tick_tests}
+use Rattle.bench.specs.Refusal.{Outcome, release_tests, tick_tests}
 use Rattle.bench.specs.Step.{Step, release, tick, served}
 
 -- A call on a bench: a release of a demand at a place, or a tick.
@@ -43,8 +41,8 @@ steps b (call ∷ calls) = do_call b call ∷ steps (do_call b call).bench calls
 
 -- whether a call was taken
 unfoldable pub is_taken : Outcome → Bool
-is_taken Taken = true
-is_taken (Refused why) = false
+is_taken (Ok done) = true
+is_taken (Err why) = false
 
 -- the demand that a call brings the row at a place, and the units that it serves it: none where it is refused
 unfoldable pub brought : (place : ℕ) → Bench → Call → ℕ

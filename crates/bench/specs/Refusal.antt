@@ -1,5 +1,5 @@
 -- What turns a call away, in the order of document 01, and the number and place of each refusal.
-use Rattle.std.specs.Prelude.{ℕ, ◌-◌, Bool, false, ◌||◌, List, [], ◌∷◌, eqb, ltb, length, Option, None, Some}
+use Rattle.std.specs.Prelude.{ℕ, ◌-◌, Bool, false, ◌||◌, List, [], ◌∷◌, eqb, ltb, length, Option, None, Some, Result, Ok, Err}
 use Rattle.std.proofs.Math.Option.{Option as Maybe, none, some}
 use Rattle.laws.specs.Checks.{Check, check_for}
 use Rattle.quantities.specs.Row.{cost, gap}
@@ -9,8 +9,6 @@ use Rattle.bench.specs.declared.Bench.{Bench}
 use Rattle.bench.specs.declared.Refusal.{Refusal}
 use Rattle.bench.specs.declared.Refusal.TheVariants.{NoPlace, Unfinished, TooSoon, WrongDemand}
 use Rattle.bench.specs.declared.Refusal.TheVariants.{ClockEnd, BrokenRecord}
-use Rattle.bench.specs.declared.Outcome.{Outcome}
-use Rattle.bench.specs.declared.Outcome.TheVariants.{Taken, Refused}
 use Rattle.bench.specs.State.{last_instant, rows, row_at, state_at, work, broken}
 
 -- whether fewer than `gap` ticks are over since the last release; a first release is never too soon
@@ -39,10 +37,14 @@ release_tests b place demand =
 unfoldable pub tick_tests : Bench → List (Check Refusal)
 tick_tests b = check_for BrokenRecord (broken b) ∷ check_for ClockEnd (eqb b.now.0 last_instant) ∷ []
 
+-- what a call comes to: it is taken, or refused for a reason
+abbrev pub Outcome : Type 0
+Outcome = Result (Unit {0}) Refusal
+
 -- a refusal, or none, as the code's functions answer it
 unfoldable pub outcome_of : Maybe Refusal → Outcome
-outcome_of none = Taken
-outcome_of (some why) = Refused why
+outcome_of none = Ok tt
+outcome_of (some why) = Err why
 
 -- a refusal on paper: its number and its place in document 01
 unfoldable pub refusal_paper : Refusal → Paper
@@ -55,5 +57,5 @@ refusal_paper BrokenRecord = paper 29 0
 
 -- an outcome on paper
 unfoldable pub outcome_paper : Outcome → Paper
-outcome_paper Taken = no_refusal
-outcome_paper (Refused why) = refusal_paper why
+outcome_paper (Ok done) = no_refusal
+outcome_paper (Err why) = refusal_paper why

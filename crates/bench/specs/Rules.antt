@@ -1,5 +1,5 @@
 -- What the bench promises, a type for each sentence of document 01. proofs/Rules.antt proves each.
-use Rattle.std.specs.Prelude.{ℕ, ◌+◌, ◌≤◌, ◌<◌, ◌≡◌, false, ◌||◌, List, [], ◌∷◌, map, eqb, ltb, length, None, Some, Ok}
+use Rattle.std.specs.Prelude.{ℕ, ◌+◌, ◌≤◌, ◌<◌, ◌≡◌, false, ◌||◌, List, [], ◌∷◌, map, eqb, ltb, length, None, Some, Ok, Err}
 use Rattle.std.proofs.Math.Option.{none, some}
 use Rattle.quantities.specs.Limits.{row_capacity}
 use Rattle.quantities.specs.Row.{cost, gap}
@@ -12,7 +12,6 @@ use Rattle.quantities.specs.declared.Table.{Table}
 use Rattle.bench.specs.declared.Bench.{Bench}
 use Rattle.bench.specs.declared.Refusal.{Refusal}
 use Rattle.bench.specs.declared.Refusal.TheVariants.{BrokenRecord}
-use Rattle.bench.specs.declared.Outcome.TheVariants.{Taken, Refused}
 use Rattle.bench.specs.State.{idle, rows, row_at, state_at, work, broken}
 use Rattle.bench.specs.Refusal.{too_soon, refusal_paper, outcome_paper}
 use Rattle.bench.specs.Step.{empty_bench, no_bench, opened, opening_of, Step, fresh, release, tick}
@@ -57,19 +56,19 @@ CallTurnedAway =
     → FirstFailing (call_checks b call) one → TurnedAway b one.number one.place (do_call b call)
 
 abbrev pub CallTaken : Type 0
-CallTaken = (b : Bench) (call : Call) → PermittedCall b call → (do_call b call).outcome ≡ Taken
+CallTaken = (b : Bench) (call : Call) → PermittedCall b call → (do_call b call).outcome ≡ Ok tt
 
 -- And a call that is refused fails the check that has its number and place, and none before it.
 abbrev pub RefusedCallHasFault : Type 0
 RefusedCallHasFault =
     (b : Bench) (call : Call) (why : Refusal)
-    → (do_call b call).outcome ≡ Refused why → FirstFailing (call_checks b call) (refusal_paper why)
+    → (do_call b call).outcome ≡ Err why → FirstFailing (call_checks b call) (refusal_paper why)
 
 -- A refused bench call changes nothing on the bench.
 abbrev pub RefusedUnchanged : Type 0
 RefusedUnchanged =
     (b : Bench) (call : Call) (why : Refusal)
-    → (do_call b call).outcome ≡ Refused why → ((do_call b call).finishes ≡ []) × ((do_call b call).bench ≡ b)
+    → (do_call b call).outcome ≡ Err why → ((do_call b call).finishes ≡ []) × ((do_call b call).bench ≡ b)
 
 -- Opening a bench checks 1 to 6 in list order and gives no bench on refusal.
 pub record NotOpened (cores : ℕ) (table : Table) (one : Paper) : Type 0 where
@@ -103,7 +102,7 @@ OpenedHolds = (cores : ℕ) (table : Table) (b : Bench) → opened cores table �
 -- Release: a poll starts at the present instant. Every other place, the clock and the board stay. A bench of
 -- the code has a state for each of the rows that a table can hold.
 pub record ReleaseRule (b : Bench) (place demand : ℕ) (step : Step) : Type 0 where
-  pub outcome : step.outcome ≡ Taken
+  pub outcome : step.outcome ≡ Ok tt
   pub poll_starts : state_at step.bench place ≡ fresh b.now.0 demand
   pub others : (other : ℕ) → 1 ≤ other → (other ≡ place → ⊥) → state_at step.bench other ≡ state_at b other
   pub as_many : length step.bench.states ≡ length b.states
@@ -145,13 +144,13 @@ abbrev pub ExactGapPermitted : Type 0
 ExactGapPermitted =
     (b : Bench) (place demand : ℕ) (at : Instant)
     → Ready b place demand → (state_at b place).last ≡ Some at → b.now.0 ≡ at.0 + gap (row_at b place)
-    → (release b place demand).outcome ≡ Taken
+    → (release b place demand).outcome ≡ Ok tt
 
 -- A row's first release is permitted at each instant.
 abbrev pub FirstReleasePermitted : Type 0
 FirstReleasePermitted =
     (b : Bench) (place demand : ℕ)
-    → Ready b place demand → (state_at b place).last ≡ None → (release b place demand).outcome ≡ Taken
+    → Ready b place demand → (state_at b place).last ≡ None → (release b place demand).outcome ≡ Ok tt
 
 -- From an empty bench, for each row, demand accepted in the history equals units served in the history's
 -- ticks plus what remains.
@@ -165,7 +164,7 @@ BooksBalance =
 abbrev pub NeverBroken : Type 0
 NeverBroken =
     (cores : ℕ) (table : Table) (b : Bench) → opened cores table ≡ some b
-    → (calls : List Call) (call : Call) → (do_call (after b calls) call).outcome ≡ Refused BrokenRecord → ⊥
+    → (calls : List Call) (call : Call) → (do_call (after b calls) call).outcome ≡ Err BrokenRecord → ⊥
 
 -- A tick at instant 1,000,000,000 gives 24 at place 0, and nothing moves.
 abbrev pub ClockEnds : Type 0

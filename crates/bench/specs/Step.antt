@@ -1,5 +1,5 @@
 -- The calls on a bench: opening, release, tick. A refused call changes nothing.
-use Rattle.std.specs.Prelude.{ℕ, suc, ◌-◌, List, [], length, take, set, replicate, Some}
+use Rattle.std.specs.Prelude.{ℕ, suc, ◌-◌, List, [], length, take, set, replicate, Some, Ok, Err}
 use Rattle.std.proofs.Math.Option.{Option, none, some}
 use Rattle.laws.specs.Checks.{first_failing}
 use Rattle.quantities.specs.Limits.{row_capacity}
@@ -10,14 +10,12 @@ use Rattle.quantities.specs.declared.Fault.{Fault}
 use Rattle.bench.specs.declared.RowState.{RowState}
 use Rattle.bench.specs.declared.Bench.{Bench}
 use Rattle.bench.specs.declared.Refusal.{Refusal}
-use Rattle.bench.specs.declared.Outcome.{Outcome}
-use Rattle.bench.specs.declared.Outcome.TheVariants.{Taken, Refused}
 use Rattle.bench.specs.declared.Finish.{Finish}
 use Rattle.bench.specs.declared.Opening.{Opening}
 use Rattle.bench.specs.declared.Released.{Released}
 use Rattle.bench.specs.declared.Ticked.{Ticked}
 use Rattle.bench.specs.State.{idle, rows}
-use Rattle.bench.specs.Refusal.{release_tests, tick_tests}
+use Rattle.bench.specs.Refusal.{Outcome, release_tests, tick_tests}
 use Rattle.bench.specs.Serving.{units, worked, finished}
 use Rattle.bench.specs.Ended.{finishes_of}
 
@@ -47,7 +45,7 @@ pub record Step : Type 0 where
 -- a call that does `step` unless there is a refusal: then nothing changes
 unfoldable pub unless_refused : Option Refusal → Step → Bench → Step
 unless_refused none step b = step
-unless_refused (some why) step b = record { outcome = Refused why; finishes = []; bench = b }
+unless_refused (some why) step b = record { outcome = Err why; finishes = []; bench = b }
 
 -- a poll that starts with this demand at an instant
 abbrev pub fresh : (now demand : ℕ) → RowState
@@ -68,7 +66,7 @@ started b place demand =
 unfoldable pub release : Bench → (place demand : ℕ) → Step
 release b place demand =
     unless_refused (first_failing (release_tests b place demand))
-    (record { outcome = Taken; finishes = []; bench = started b place demand })
+    (record { outcome = Ok tt; finishes = []; bench = started b place demand })
     b
 
 -- the units that the rows of the bench get in a tick: only the states beside the table's rows count
@@ -88,7 +86,7 @@ moved b = later b (worked (served b) b.states)
 unfoldable pub taken : Bench → Step
 taken b =
     record {
-      outcome = Taken;
+      outcome = Ok tt;
       finishes = finished (suc b.now.0) 1 (served b) b.states;
       bench = moved b;
     }

@@ -1,12 +1,11 @@
 -- The tick rule of document 01, said of any step: who gets a unit, what stays, and what is listed.
-use Rattle.std.specs.Prelude.{ℕ, suc, ◌+◌, ◌-◌, ◌≤◌, ◌<◌, min, ◌≡◌, List, [], ◌∷◌, map, length, take, Some}
+use Rattle.std.specs.Prelude.{ℕ, suc, ◌+◌, ◌-◌, ◌≤◌, ◌<◌, min, ◌≡◌, List, [], ◌∷◌, map, length, take, Some, Ok}
 use Rattle.laws.specs.Each.{Each}
 use Rattle.laws.specs.Member.{Member}
 use Rattle.quantities.specs.declared.Instant.{Instant}
 use Rattle.bench.specs.declared.RowState.{RowState}
 use Rattle.bench.specs.declared.Bench.{Bench}
 use Rattle.bench.specs.declared.Finish.{Finish}
-use Rattle.bench.specs.declared.Outcome.TheVariants.{Taken}
 use Rattle.bench.specs.State.{work, rows, state_at}
 use Rattle.bench.specs.Serving.{sum, workers, after_units}
 use Rattle.bench.specs.Step.{Step}
@@ -46,7 +45,7 @@ remaining states = sum (map work states)
 -- The rule: among rows with work remaining, the highest min(M, how many) get one unit each; the instant grows
 -- by one; the answer lists the polls that ended and no other, in rising place. All else stays.
 pub record TickRule (b : Bench) (step : Step) : Type 0 where
-  pub outcome : step.outcome ≡ Taken
+  pub outcome : step.outcome ≡ Ok tt
   pub clock : step.bench.now.0 ≡ suc b.now.0
   pub board : (step.bench.cores ≡ b.cores) × (step.bench.table ≡ b.table)
   pub one_unit : (place : ℕ) → Gets b place → state_at step.bench place ≡ after_units 1 (state_at b place)

@@ -5,7 +5,7 @@ ghost use Rattle.std.specs.Prelude.{◌≡◌, [], ◌≤◌, ◌<◌};
 ghost use Rattle.laws.specs.Checks.{first_failing};
 ghost use Rattle.quantities.specs.Limits.{row_capacity};
 ghost use Rattle.bench.specs.State.{last_instant, broken};
-ghost use Rattle.bench.specs.Refusal.{outcome_of, release_tests, tick_tests};
+ghost use Rattle.bench.specs.Refusal.{outcome_of, refusal_paper, release_tests, tick_tests};
 ghost use Rattle.bench.specs.Ended.{finishes_of, noted};
 ghost use Rattle.bench.specs.History.{do_call, call_of};
 ghost use Rattle.bench.specs.Step.{empty_bench, no_bench, opening_of, released_of, ticked_of, started, release, tick};
@@ -52,13 +52,6 @@ pub enum Refusal {
     BrokenRecord,
 }
 
-// A call is taken, or refused for a reason.
-#[derive(Clone, Copy)]
-pub enum Outcome {
-    Taken,
-    Refused(Refusal),
-}
-
 // A poll that ended: the place of its row, and the ticks from its release to its end.
 #[derive(Clone, Copy)]
 pub struct Finish {
@@ -83,14 +76,14 @@ pub struct Opening {
 // The answer to a release, and the bench after it.
 #[derive(Clone, Copy)]
 pub struct Released {
-    pub outcome: Outcome,
+    pub outcome: Result<(), Refusal>,
     pub bench: Bench,
 }
 
 // The answer to a tick, and the bench after it.
 #[derive(Clone, Copy)]
 pub struct Ticked {
-    pub outcome: Outcome,
+    pub outcome: Result<(), Refusal>,
     pub finishes: Finishes,
     pub bench: Bench,
 }
@@ -103,6 +96,37 @@ struct Turn {
     ends: bool,
 }
 
+impl Refusal {
+    // Its number in document 01.
+    #[tactic(auto, unfolding(crate::specs::Refusal::refusal_paper))]
+    pub fn number(self) -> u8
+        ensures { result ≡ (refusal_paper self).number }
+    {
+        match self {
+            Refusal::NoPlace(_) => 20,
+            Refusal::Unfinished(_) => 21,
+            Refusal::TooSoon(_) => 22,
+            Refusal::WrongDemand(_) => 23,
+            Refusal::ClockEnd => 24,
+            Refusal::BrokenRecord => 29,
+        }
+    }
+
+    // The place that stands with it: 0 where it is of no row.
+    #[tactic(auto, unfolding(crate::specs::Refusal::refusal_paper))]
+    pub fn place(self) -> usize
+        ensures { result ≡ (refusal_paper self).place }
+    {
+        match self {
+            Refusal::NoPlace(place) => place,
+            Refusal::Unfinished(place) => place,
+            Refusal::TooSoon(place) => place,
+            Refusal::WrongDemand(place) => place,
+            Refusal::ClockEnd | Refusal::BrokenRecord => 0,
+        }
+    }
+}
+
 impl Finishes {
     // The list of no polls.
     #[tactic(auto, unfolding(crate::specs::Ended::finishes_of))]
@@ -113,10 +137,9 @@ impl Finishes {
             place: 0,
             response: Ticks(0),
         };
-        let list = [blank; Table::ROW_CAPACITY];
         Finishes {
             count: 0,
-            list: list,
+            list: [blank; Table::ROW_CAPACITY],
         }
     }
 
@@ -127,9 +150,8 @@ impl Finishes {
         ensures { result ≡ noted self ended poll }
     {
         if ended {
-            let count = self.count;
-            self.list[count] = poll;
-            self.count = count + 1;
+            self.list[self.count] = poll;
+            self.count += 1;
         }
         self
     }
@@ -162,12 +184,11 @@ impl Bench {
             demand: Ticks(0),
             left: Ticks(0),
         };
-        let states = [idle; Table::ROW_CAPACITY];
         Bench {
-            cores: cores,
-            table: table,
+            cores,
+            table,
             now: Instant(0),
-            states: states,
+            states: [idle; Table::ROW_CAPACITY],
         }
     }
 
@@ -201,50 +222,42 @@ impl Bench {
     }
 
     // Whether a release of `demand` at `place` is taken, or refused: the first of 29, 20, 23, 22, 21 decides.
-    pub fn judge_release(self, place: usize, demand: Ticks) -> Outcome
+    #[tactic(auto, using(crate::proofs::Permitted::release_cases), unfolding(crate::specs::Refusal::outcome_of))]
+    pub fn judge_release(self, place: usize, demand: Ticks) -> Result<(), Refusal>
         ensures { result ≡ outcome_of (first_failing (release_tests self place demand.0)) }
     {
         if self.broken() {
-            return Outcome::Refused(Refusal::BrokenRecord);
+            return Err(Refusal::BrokenRecord);
         }
-        if place == 0 {
-            return Outcome::Refused(Refusal::NoPlace(place));
+        if place == 0 || self.table.count < place {
+            return Err(Refusal::NoPlace(place));
         }
-        if self.table.count < place {
-            return Outcome::Refused(Refusal::NoPlace(place));
+        let row = self.table.rows[place - 1];
+        let state = self.states[place - 1];
+        if demand.0 == 0 || row.costs_less(demand) {
+            return Err(Refusal::WrongDemand(place));
         }
-        let i = place - 1;
-        let table = self.table;
-        let row = table.rows[i];
-        let state = self.states[i];
-        let last = state.last;
-        if demand.0 == 0 {
-            return Outcome::Refused(Refusal::WrongDemand(place));
-        }
-        if row.costs_less(demand) {
-            return Outcome::Refused(Refusal::WrongDemand(place));
-        }
-        if too_soon(self.now, row.t, last) {
-            return Outcome::Refused(Refusal::TooSoon(place));
+        if too_soon(self.now, row.t, state.last) {
+            return Err(Refusal::TooSoon(place));
         }
         if 0 < state.left.0 {
-            return Outcome::Refused(Refusal::Unfinished(place));
+            return Err(Refusal::Unfinished(place));
         }
-        Outcome::Taken
+        Ok(())
     }
 
     // Whether a tick is taken, or refused: the first of 29 and 24 decides.
-    #[tactic(auto, using(crate::proofs::Permitted::tick_24), unfolding(crate::specs::Refusal::outcome_of))]
-    pub fn judge_tick(self) -> Outcome
+    #[tactic(auto, using(crate::proofs::Permitted::tick_cases), unfolding(crate::specs::Refusal::outcome_of))]
+    pub fn judge_tick(self) -> Result<(), Refusal>
         ensures { result ≡ outcome_of (first_failing (tick_tests self)) }
     {
         if self.broken() {
-            return Outcome::Refused(Refusal::BrokenRecord);
+            return Err(Refusal::BrokenRecord);
         }
         if self.now.0 == Bench::LAST_INSTANT {
-            return Outcome::Refused(Refusal::ClockEnd);
+            return Err(Refusal::ClockEnd);
         }
-        Outcome::Taken
+        Ok(())
     }
 
     // The bench with a poll of `demand` started at a place of its states, at the present instant.
@@ -253,14 +266,11 @@ impl Bench {
         requires { (0 < place) × (place ≤ row_capacity) }
         ensures { result ≡ started self place demand.0 }
     {
-        let now = self.now;
-        let fresh = RowState {
-            last: Some(now),
-            demand: demand,
+        self.states[place - 1] = RowState {
+            last: Some(self.now),
+            demand,
             left: demand,
         };
-        let i = place - 1;
-        self.states[i] = fresh;
         self
     }
 
@@ -268,20 +278,15 @@ impl Bench {
     pub fn release(self, place: usize, demand: Ticks) -> Released
         ensures { result ≡ released_of (release self place demand.0) }
     {
-        let outcome = self.judge_release(place, demand);
-        match outcome {
-            Outcome::Refused(why) => {
-                return Released {
-                    outcome: Outcome::Refused(why),
-                    bench: self,
-                };
-            }
-            Outcome::Taken => {}
-        }
-        let bench = self.start(place, demand);
-        Released {
-            outcome: Outcome::Taken,
-            bench: bench,
+        match self.judge_release(place, demand) {
+            Ok(()) => Released {
+                outcome: Ok(()),
+                bench: self.start(place, demand),
+            },
+            Err(why) => Released {
+                outcome: Err(why),
+                bench: self,
+            },
         }
     }
 
@@ -289,19 +294,14 @@ impl Bench {
     pub fn tick(self) -> Ticked
         ensures { result ≡ ticked_of (tick self) }
     {
-        let outcome = self.judge_tick();
-        match outcome {
-            Outcome::Refused(why) => {
-                let finishes = Finishes::none();
-                return Ticked {
-                    outcome: Outcome::Refused(why),
-                    finishes: finishes,
-                    bench: self,
-                };
-            }
-            Outcome::Taken => {}
+        match self.judge_tick() {
+            Ok(()) => serve(self),
+            Err(why) => Ticked {
+                outcome: Err(why),
+                finishes: Finishes::none(),
+                bench: self,
+            },
         }
-        serve(self)
     }
 
     // The answer to a call, and the bench after it; a release ends no poll.
@@ -312,13 +312,10 @@ impl Bench {
             Request::Tick => self.tick(),
             Request::Release(place, demand) => {
                 let released = self.release(place, demand);
-                let finishes = Finishes::none();
-                let outcome = released.outcome;
-                let bench = released.bench;
                 Ticked {
-                    outcome: outcome,
-                    finishes: finishes,
-                    bench: bench,
+                    outcome: released.outcome,
+                    finishes: Finishes::none(),
+                    bench: released.bench,
                 }
             }
         }

@@ -5,7 +5,7 @@ ghost use Rattle.bench.specs.State.{last_instant};
 ghost use Rattle.bench.specs.Serving.{since, turn_of};
 ghost use Rattle.bench.specs.Step.{ticked_of, taken};
 
-use crate::{Bench, Finish, Finishes, Outcome, RowState, Ticked, Turn};
+use crate::{Bench, Finish, Finishes, RowState, Ticked, Turn};
 use quantities::{Instant, Ticks};
 
 // The ticks from a last release to an instant.
@@ -20,37 +20,22 @@ fn since(instant: Instant, last: Option<Instant>) -> Ticks
 }
 
 // One row's part in a tick when this many cores are free.
+#[tactic(auto, using(crate::proofs::Rows::turn_cases))]
 fn serve_row(state: RowState, free: u32) -> Turn
     ensures { result ≡ turn_of free state }
 {
-    let demand = state.demand.0;
-    let left = state.left.0;
-    if free == 0 {
+    if free == 0 || state.left.0 == 0 {
         return Turn {
-            state: state,
-            free: free,
+            state,
+            free,
             ends: false,
         };
     }
-    if left == 0 {
-        return Turn {
-            state: state,
-            free: free,
-            ends: false,
-        };
-    }
-    let last = state.last;
-    let rest = left - 1;
-    let next = RowState {
-        last: last,
-        demand: Ticks(demand),
-        left: Ticks(rest),
-    };
-    let cores = free - 1;
+    let left = Ticks(state.left.0 - 1);
     Turn {
-        state: next,
-        free: cores,
-        ends: left == 1,
+        state: RowState { left, ..state },
+        free: free - 1,
+        ends: left.0 == 0,
     }
 }
 
@@ -60,35 +45,27 @@ pub(crate) fn serve(b: Bench) -> Ticked
     ensures { result ≡ ticked_of (taken b) }
 {
     let end = Instant(b.now.0 + 1);
-    let table = b.table;
     let mut states = b.states;
     let mut free = b.cores;
     let mut finishes = Finishes::none();
-    let mut i: usize = 0;
-    while i < table.count {
+    for i in 0..b.table.count {
         let state = states[i];
         let turn = serve_row(state, free);
-        let next = turn.state;
-        states[i] = next;
-        free = turn.free;
-        let last = state.last;
-        let response = since(end, last);
         let poll = Finish {
             place: i + 1,
-            response: response,
+            response: since(end, state.last),
         };
         finishes = finishes.noted(turn.ends, poll);
-        i += 1;
+        states[i] = turn.state;
+        free = turn.free;
     }
-    let bench = Bench {
-        cores: b.cores,
-        table: table,
-        now: end,
-        states: states,
-    };
     Ticked {
-        outcome: Outcome::Taken,
-        finishes: finishes,
-        bench: bench,
+        outcome: Ok(()),
+        finishes,
+        bench: Bench {
+            now: end,
+            states,
+            ..b
+        },
     }
 }

@@ -8,6 +8,7 @@ use mathlib.Core.List.{List, [], ◌∷◌, ◌++◌, map}
 use lib.ListN.{length, drop, length-append}
 use lib.Seq.{sets, sets-eq, length-sets}
 use borrow.Author.Tests.{ne_eqb, lt-ltb, le-ltb}
+use Rattle.std.specs.Prelude.{Ok, Err}
 use Rattle.laws.specs.Each.{Each}
 use Rattle.laws.proofs.Lists.{each_map}
 use Rattle.quantities.specs.declared.Table.{Table}
@@ -15,10 +16,8 @@ use Rattle.quantities.specs.Table.{rows_of}
 use Rattle.laws.proofs.Checks.{first_found, told_has}
 use Rattle.quantities.proofs.Sound.{sound_list_means}
 use Rattle.bench.specs.declared.Bench.{Bench}
-use Rattle.bench.specs.declared.Outcome.{Outcome}
-use Rattle.bench.specs.declared.Outcome.TheVariants.{Taken, Refused}
 use Rattle.bench.specs.declared.Finish.{Finish}
-use Rattle.bench.specs.Refusal.{outcome_paper, refusal_paper}
+use Rattle.bench.specs.Refusal.{Outcome, outcome_paper, refusal_paper}
 use Rattle.bench.specs.declared.Request.{Request}
 use Rattle.bench.specs.Step.{empty_bench, opening_of, tick}
 use Rattle.bench.specs.History.{Call, releases, ticks, do_call, call_of, steps}
@@ -120,8 +119,8 @@ small_place b call small = go (do_call b call).outcome refl
   where
     go : (outcome : Outcome) → (do_call b call).outcome ≡ outcome
         → (outcome_paper (do_call b call).outcome).place < 256
-    go Taken q = rw q (omega arith)
-    go (Refused why) q =
+    go (Ok done) q = rw q (omega arith)
+    go (Err why) q =
         let found = first_found (call_order b call) (refusal_paper why) (refused_call_has_fault b call why q) in
         rw q (told_has (λ one. one.place < 256) (refusal_paper why) (call_order b call) small found)
 

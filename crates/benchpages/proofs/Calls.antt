@@ -9,7 +9,7 @@ use mathlib.Core.Option.{some}
 use lib.Dec.{eqb, ltb}
 use lib.ListN.{length}
 use borrow.Author.Tests.{ltb-false, lt-ltb, le-ltb, eqb-false, ne_eqb}
-use Rattle.std.specs.Prelude.{Option, None, Some}
+use Rattle.std.specs.Prelude.{Option, None, Some, Ok, Err}
 use Rattle.laws.proofs.Tests.{or_false, not_one}
 use Rattle.quantities.specs.declared.Instant.{Instant}
 use Rattle.quantities.specs.Paper.{Paper, paper}
@@ -17,10 +17,8 @@ use Rattle.laws.specs.Checks.{Check, first_failing}
 use Rattle.quantities.specs.Checks.{check}
 use Rattle.laws.proofs.Checks.{first_failing_lem, first_found, first_passes, failing_behind, none_fails, none_found, told_has}
 use Rattle.bench.specs.declared.Bench.{Bench}
-use Rattle.bench.specs.declared.Outcome.{Outcome}
-use Rattle.bench.specs.declared.Outcome.TheVariants.{Taken, Refused}
 use Rattle.bench.specs.State.{broken}
-use Rattle.bench.specs.Refusal.{too_soon, refusal_paper, outcome_paper}
+use Rattle.bench.specs.Refusal.{Outcome, too_soon, refusal_paper, outcome_paper}
 use Rattle.bench.specs.Step.{Step, release}
 use Rattle.bench.specs.History.{Call, releases, ticks, do_call}
 use Rattle.bench.specs.Rules.{call_checks, TurnedAway}
@@ -147,10 +145,10 @@ gives_29 b call = ((λ e. go (do_call b call).outcome refl e), (λ broke. (is_29
   where
     go : (outcome : Outcome) → (do_call b call).outcome ≡ outcome
         → outcome_paper (do_call b call).outcome ≡ paper 29 0 → RecordBroken b
-    go Taken q e =
+    go (Ok done) q e =
         let z : ◌≡◌ {A = ℕ} 0 29 = ap (λ (p : Paper). p.number) (sym (ap outcome_paper q) ∙ e) in
         absurd (omega arith)
-    go (Refused why) q e =
+    go (Err why) q e =
         let found = first_found (call_order b call) (refusal_paper why) (refused_call_has_fault b call why q) in
         gave_29 b call (refusal_paper why) found (ap (λ (p : Paper). p.number) (sym (ap outcome_paper q) ∙ e))
 
@@ -169,7 +167,7 @@ module _ (b : Bench) (place demand : ℕ) (ready : Ready b place demand) where
       let some_demand = ne_eqb demand 0 (λ e. omega (arith, ready.some_demand)) in
       rw (some_demand, le-ltb (row_on b place).c.0 demand ready.fits)
 
-  ready_taken : early ≡ false → (release b place demand).outcome ≡ Taken
+  ready_taken : early ≡ false → (release b place demand).outcome ≡ Ok tt
   ready_taken in_gap =
       let over = le-ltb 0 (state_on b place).left.0 (omega (arith, ready.over)) in
       call_taken b (releases place demand)
@@ -189,7 +187,7 @@ module _ (b : Bench) (place demand : ℕ) (ready : Ready b place demand) where
 
 -- a call that is turned away is not taken
 turned_not_taken : (b : Bench) (number place : ℕ) (step : Step) → 0 < number → Refuses b number place step
-    → step.outcome ≡ Taken → ⊥
+    → step.outcome ≡ Ok tt → ⊥
 unfolding outcome_paper
 turned_not_taken b number place step h turned e =
     let z : 0 ≡ number = ap (λ (p : Paper). p.number) (sym (ap outcome_paper e) ∙ turned.on_paper) in omega arith
@@ -201,11 +199,11 @@ gap_permitted b place demand at ready q =
     turned : b.now.0 < at.0 + (row_on b place).t.0 → Refuses b 22 place (release b place demand)
     turned h = ready_22 b place demand ready (rw q (lt-ltb b.now.0 (at.0 + (row_on b place).t.0) h))
 
-    late_enough : at.0 + (row_on b place).t.0 ≤ b.now.0 → (release b place demand).outcome ≡ Taken
+    late_enough : at.0 + (row_on b place).t.0 ≤ b.now.0 → (release b place demand).outcome ≡ Ok tt
     late_enough h =
         ready_taken b place demand ready (rw q (le-ltb b.now.0 (at.0 + (row_on b place).t.0) h))
 
-    there : (release b place demand).outcome ≡ Taken → at.0 + (row_on b place).t.0 ≤ b.now.0
+    there : (release b place demand).outcome ≡ Ok tt → at.0 + (row_on b place).t.0 ≤ b.now.0
     there e = elim (dec_le (at.0 + (row_on b place).t.0) b.now.0) [
       | yes h ↦ h
       | no h ↦

@@ -6,9 +6,9 @@ use mathlib.Core.Bool.{Bool, true, false, cond, ◌&&◌}
 use mathlib.Core.List.{List, [], ◌∷◌}
 use lib.Dec.{eqb}
 use lib.ListN.{length}
+use Rattle.std.specs.Prelude.{Ok, Err}
 use Rattle.bench.specs.declared.Bench.{Bench}
-use Rattle.bench.specs.declared.Outcome.{Outcome}
-use Rattle.bench.specs.declared.Outcome.TheVariants.{Taken, Refused}
+use Rattle.bench.specs.Refusal.{Outcome}
 use Rattle.bench.specs.State.{rows, work, state_at}
 use Rattle.bench.specs.Step.{release, tick}
 use Rattle.bench.specs.History.{Call, releases, ticks, do_call, after, steps, is_taken, brought, gave, accepted, served_in}
@@ -30,8 +30,8 @@ history_runs =
 -- The words of the page are the definitions' own.
 same_taken : (outcome : Outcome) → was_taken outcome ≡ is_taken outcome
 unfolding is_taken
-same_taken Taken = refl
-same_taken (Refused why) = refl
+same_taken (Ok done) = refl
+same_taken (Err why) = refl
 
 same_choice : (t : Bool) (demand : ℕ) → cond t demand 0 ≡ elim t [ true ↦ demand | false ↦ 0 ]
 same_choice true demand = refl

@@ -5,7 +5,7 @@ use native.Mathlib.Omega.{arith}
 use mathlib.Core.Path.{◌≡◌, refl, sym, ap, ◌∙◌}
 use mathlib.Core.Logic.{◌⊎◌, inl, inr}
 use lib.ListN.{get_or}
-use Rattle.std.specs.Prelude.{Option, None, Some}
+use Rattle.std.specs.Prelude.{Option, None, Some, Ok}
 use Rattle.laws.proofs.Lists.{each_map}
 use Rattle.laws.proofs.Tests.{not_one}
 use Rattle.quantities.specs.declared.Instant.{Instant}
@@ -13,7 +13,6 @@ use Rattle.quantities.proofs.Rows.{length_rows}
 use Rattle.bench.specs.declared.RowState.{RowState}
 use Rattle.bench.specs.declared.Bench.{Bench}
 use Rattle.bench.specs.declared.Finish.{Finish}
-use Rattle.bench.specs.declared.Outcome.TheVariants.{Taken}
 use Rattle.bench.specs.State.{state_at, work}
 use Rattle.bench.specs.Serving.{after_units}
 use Rattle.bench.specs.Step.{Step, started, release, served, moved, taken, tick}
@@ -165,12 +164,12 @@ lists_moves b place released = at (call_case b ticks)
     at (ticked q may) now = refl
 
 -- A release that is taken starts the poll.
-pub starts : (b : Bench) (place demand : ℕ) → Kept b → (release b place demand).outcome ≡ Taken
+pub starts : (b : Bench) (place demand : ℕ) → Kept b → (release b place demand).outcome ≡ Ok tt
     → Waits place b.now.0 (release b place demand).bench
 unfolding started
 starts b place demand kept = at (call_case b (releases place demand))
   where
-    at : {step : Step} → CallCase b (releases place demand) step → step.outcome ≡ Taken
+    at : {step : Step} → CallCase b (releases place demand) step → step.outcome ≡ Ok tt
         → Waits place b.now.0 step.bench
     at (refused why q) is = absurd (not_one cc)
     at (poll_started q may) is =

@@ -7,8 +7,8 @@ use Rattle.quantities.specs.Table.{rows_of}
 use Rattle.windows.specs.declared.Answer.TheVariants.{NotShown}
 use Rattle.windows.specs.Answer.{Judged, judged}
 use Rattle.bench.specs.declared.Bench.{Bench}
-use Rattle.bench.specs.declared.Outcome.{Outcome}
 use Rattle.bench.specs.declared.Finish.{Finish}
+use Rattle.bench.specs.Refusal.{Outcome}
 use Rattle.bench.specs.Step.{opened}
 use Rattle.bench.specs.History.{Call, releases, ticks, do_call, after}
 use Rattle.rowpages.specs.Lists.{ListInRange}

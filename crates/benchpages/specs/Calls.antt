@@ -15,7 +15,6 @@ use Rattle.bench.specs.declared.Bench.{Bench}
 use Rattle.bench.specs.declared.Refusal.{Refusal}
 use Rattle.bench.specs.declared.Refusal.TheVariants.{NoPlace, Unfinished, TooSoon, WrongDemand}
 use Rattle.bench.specs.declared.Refusal.TheVariants.{ClockEnd, BrokenRecord}
-use Rattle.bench.specs.declared.Outcome.TheVariants.{Taken, Refused}
 use Rattle.bench.specs.declared.Finish.{Finish}
 use Rattle.bench.specs.declared.Finishes.{Finishes}
 use Rattle.bench.specs.State.{last_instant, broken}
@@ -52,8 +51,8 @@ pub record RefusalNumbers : Type 0 where
   pub demand_zero_or_above : (place : ℕ) → refusal_paper (WrongDemand place) ≡ paper 23 place
   pub clock_ended : refusal_paper ClockEnd ≡ paper 24 0
   pub record_broken : refusal_paper BrokenRecord ≡ paper 29 0
-  pub of_a_refused_call : (why : Refusal) → outcome_paper (Refused why) ≡ refusal_paper why
-  pub none_of_a_taken_call : outcome_paper Taken ≡ paper 0 0
+  pub of_a_refused_call : (why : Refusal) → outcome_paper (Err why) ≡ refusal_paper why
+  pub none_of_a_taken_call : outcome_paper (Ok tt) ≡ paper 0 0
 
 -- 29: a record with a table failing 1 to 6, an instant above 1,000,000,000, a last release after it, a
 -- released demand above C, a remainder above that demand, or work on a row never released.
@@ -111,7 +110,7 @@ pub record Refuses (b : Bench) (number place : ℕ) (step : Step) : Type 0 where
 -- A refused bench call changes nothing on the bench.
 abbrev pub RefusedChangesNothing : Type 0
 RefusedChangesNothing =
-    (b : Bench) (call : Call) (why : Refusal) → (do_call b call).outcome ≡ Refused why
+    (b : Bench) (call : Call) (why : Refusal) → (do_call b call).outcome ≡ Err why
     → ((do_call b call).finishes ≡ []) × ((do_call b call).bench ≡ b)
 
 -- A call is turned away by the first check that fails, with its number and place, and nothing changes;
@@ -124,12 +123,12 @@ CallTurnedAway =
 abbrev pub CallTaken : Type 0
 CallTaken =
     (b : Bench) (call : Call) → Each (λ one. one.fails ≡ false) (call_order b call)
-    → (do_call b call).outcome ≡ Taken
+    → (do_call b call).outcome ≡ Ok tt
 
 -- and a call that is refused fails the check that has its number and place, and none before it.
 abbrev pub RefusedCallHasFault : Type 0
 RefusedCallHasFault =
-    (b : Bench) (call : Call) (why : Refusal) → (do_call b call).outcome ≡ Refused why
+    (b : Bench) (call : Call) (why : Refusal) → (do_call b call).outcome ≡ Err why
     → FirstFailing (call_order b call) (refusal_paper why)
 
 -- Nothing but the gap can stand against a release: a record without 29, a place of the board, a demand of
@@ -145,14 +144,14 @@ pub record Ready (b : Bench) (place demand : ℕ) : Type 0 where
 abbrev pub GapPermitted : Type 0
 GapPermitted =
     (b : Bench) (place demand : ℕ) (at : Instant) → Ready b place demand → (state_on b place).last ≡ Some at
-    → (((release b place demand).outcome ≡ Taken) ↔ (at.0 + (row_on b place).t.0 ≤ b.now.0))
+    → (((release b place demand).outcome ≡ Ok tt) ↔ (at.0 + (row_on b place).t.0 ≤ b.now.0))
     × (b.now.0 < at.0 + (row_on b place).t.0 → Refuses b 22 place (release b place demand))
 
 -- A row's first release is permitted at each instant.
 abbrev pub FirstReleasePermitted : Type 0
 FirstReleasePermitted =
     (b : Bench) (place demand : ℕ) → Ready b place demand → (state_on b place).last ≡ None
-    → (release b place demand).outcome ≡ Taken
+    → (release b place demand).outcome ≡ Ok tt
 
 -- The bench that is opened: the cores and the table given, instant 0, a state for each of 32 rows, and no
 -- row released.
@@ -198,7 +197,7 @@ OpenedHolds = (cores : ℕ) (table : Table) (b : Bench) → opened cores table �
 abbrev pub ClockTo1000000000 : Type 0
 ClockTo1000000000 =
     (cores : ℕ) (table : Table) (start : Bench) → opened cores table ≡ some start → (calls : List Call)
-    → ((after start calls).now.0 < 1000000000 → (tick (after start calls)).outcome ≡ Taken)
+    → ((after start calls).now.0 < 1000000000 → (tick (after start calls)).outcome ≡ Ok tt)
     × ((after start calls).now.0 ≡ 1000000000
     → Refuses (after start calls) 24 0 (tick (after start calls)))
 

@@ -1,11 +1,10 @@
 -- Histories of calls: what a run of one call after another is, and the books of a row.
-use Rattle.std.specs.Prelude.{ℕ, ◌+◌, ◌-◌, ◌≤◌, ◌≡◌, Bool, true, false, cond, ◌&&◌, List, [], ◌∷◌, eqb, length}
+use Rattle.std.specs.Prelude.{ℕ, ◌+◌, ◌-◌, ◌≤◌, ◌≡◌, Bool, true, false, cond, ◌&&◌, List, [], ◌∷◌, eqb, length, Ok, Err}
 use Rattle.std.proofs.Math.Option.{some}
 use Rattle.quantities.specs.declared.Table.{Table}
 use Rattle.quantities.specs.Table.{rows_of}
 use Rattle.bench.specs.declared.Bench.{Bench}
-use Rattle.bench.specs.declared.Outcome.{Outcome}
-use Rattle.bench.specs.declared.Outcome.TheVariants.{Taken, Refused}
+use Rattle.bench.specs.Refusal.{Outcome}
 use Rattle.bench.specs.Step.{opened, release, tick}
 use Rattle.bench.specs.History.{Call, releases, ticks, do_call, after, steps}
 use Rattle.benchpages.specs.Calls.{state_on}
@@ -21,8 +20,8 @@ pub record HistoryRuns : Type 0 where
 
 -- whether a call was taken
 abbrev pub was_taken : Outcome → Bool
-was_taken Taken = true
-was_taken (Refused why) = false
+was_taken (Ok done) = true
+was_taken (Err why) = false
 
 -- the demand accepted in a history for the row at a place: of each release there that is taken
 abbrev pub demand_accepted : (place : ℕ) → Bench → List Call → ℕ

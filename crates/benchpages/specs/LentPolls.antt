@@ -1,5 +1,5 @@
 -- Demand 3 said of the bench that a caller lends to one call after another, by what the caller hears.
-use Rattle.std.specs.Prelude.{ℕ, suc, ◌+◌, ◌≤◌, ◌<◌, ◌≡◌, ◌↔◌, List, [], ◌∷◌, ◌++◌, length, take, Some}
+use Rattle.std.specs.Prelude.{ℕ, suc, ◌+◌, ◌≤◌, ◌<◌, ◌≡◌, ◌↔◌, List, [], ◌∷◌, ◌++◌, length, take, Some, Ok}
 use Rattle.std.proofs.Math.Option.{some}
 use Rattle.laws.specs.Each.{Each}
 use Rattle.quantities.specs.declared.Instant.{Instant}
@@ -7,9 +7,7 @@ use Rattle.quantities.specs.declared.Table.{Table}
 use Rattle.quantities.specs.Paper.{paper}
 use Rattle.bench.specs.declared.Bench.{Bench}
 use Rattle.bench.specs.declared.Finish.{Finish}
-use Rattle.bench.specs.declared.Outcome.{Outcome}
-use Rattle.bench.specs.declared.Outcome.TheVariants.{Taken}
-use Rattle.bench.specs.Refusal.{outcome_paper}
+use Rattle.bench.specs.Refusal.{Outcome, outcome_paper}
 use Rattle.bench.specs.Ended.{finishes_of}
 use Rattle.bench.specs.Step.{opened, release, tick}
 use Rattle.bench.specs.History.{Call, releases, ticks, after}
@@ -118,7 +116,7 @@ LentPollsEnd =
     (cores : ℕ) (table : Table) (start : Bench) → opened cores table ≡ some start
     → (calls : List Call) (b : Bench) (heard : List LentAnswer) → LentRun start calls b heard
     → (place demand : ℕ) → 1 ≤ place → place ≤ length (bounds_for cores table)
-    → (c : Bench) → LentRelease (release b place demand) c Taken
+    → (c : Bench) → LentRelease (release b place demand) c (Ok tt)
     → (more : List Call) (end : Bench) (then : List LentAnswer) → LentRun c more end then
     → let bound = bound_for cores table place in
     bound ≤ ticks_heard then → b.now.0 + bound ≤ 1000000000

@@ -1,12 +1,11 @@
 -- What a call that is taken does on the bench: a release starts a poll, a tick serves the highest rows.
-use Rattle.std.specs.Prelude.{ℕ, zero, suc, ◌+◌, ◌-◌, ◌≤◌, ◌<◌, min, ◌≡◌, false, List, [], ◌∷◌, length, Some}
+use Rattle.std.specs.Prelude.{ℕ, zero, suc, ◌+◌, ◌-◌, ◌≤◌, ◌<◌, min, ◌≡◌, false, List, [], ◌∷◌, length, Some, Ok}
 use Rattle.laws.specs.Each.{Each}
 use Rattle.laws.specs.Member.{Member}
 use Rattle.quantities.specs.declared.Instant.{Instant}
 use Rattle.bench.specs.declared.RowState.{RowState}
 use Rattle.bench.specs.declared.Bench.{Bench}
 use Rattle.bench.specs.declared.Finish.{Finish}
-use Rattle.bench.specs.declared.Outcome.TheVariants.{Taken}
 use Rattle.bench.specs.Step.{Step, release, tick}
 use Rattle.benchpages.specs.Calls.{rows_on, state_on, OnBoard, release_order, tick_order}
 
@@ -19,7 +18,7 @@ pub record SameBoard (b c : Bench) : Type 0 where
 -- Release (row place, demand): a poll starts at the present instant. Every other row stays as it was, and so
 -- does the clock.
 pub record PollStarted (b : Bench) (place demand : ℕ) (step : Step) : Type 0 where
-  pub outcome : step.outcome ≡ Taken
+  pub outcome : step.outcome ≡ Ok tt
   pub last : (state_on step.bench place).last ≡ Some b.now
   pub released : (state_on step.bench place).demand.0 ≡ demand
   pub remains : (state_on step.bench place).left.0 ≡ demand
@@ -79,7 +78,7 @@ RisingPlace (poll ∷ polls) = Each (λ (lower : Finish). poll.place < lower.pla
 -- Tick: among rows with work remaining, the highest min(M, how many) get one unit each; the instant grows by
 -- one. The answer lists the rows that finished, in rising place, and no other.
 pub record Ticked (b : Bench) (step : Step) : Type 0 where
-  pub outcome : step.outcome ≡ Taken
+  pub outcome : step.outcome ≡ Ok tt
   pub clock : step.bench.now.0 ≡ b.now.0 + 1
   pub board : SameBoard b step.bench
   pub one_unit : (place : ℕ) → IsServed b place → OneUnit (state_on b place) (state_on step.bench place)

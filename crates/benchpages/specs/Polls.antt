@@ -1,5 +1,5 @@
 -- Demand 3 said of polls: a poll that starts on a running board is listed as finished, within its bound.
-use Rattle.std.specs.Prelude.{ℕ, suc, ◌+◌, ◌-◌, ◌≤◌, ◌<◌, min, ◌≡◌, ◌⊎◌, List, [], ◌∷◌, ◌++◌, length, get_or, Some}
+use Rattle.std.specs.Prelude.{ℕ, suc, ◌+◌, ◌-◌, ◌≤◌, ◌<◌, min, ◌≡◌, ◌⊎◌, List, [], ◌∷◌, ◌++◌, length, get_or, Some, Ok}
 use Rattle.std.proofs.Math.Option.{some}
 use Rattle.laws.specs.Each.{Each}
 use Rattle.laws.specs.Member.{Member}
@@ -8,7 +8,6 @@ use Rattle.quantities.specs.Table.{rows_of}
 use Rattle.windows.specs.Answer.{judged}
 use Rattle.bench.specs.declared.Bench.{Bench}
 use Rattle.bench.specs.declared.Finish.{Finish}
-use Rattle.bench.specs.declared.Outcome.TheVariants.{Taken}
 use Rattle.bench.specs.Step.{Step, opened, release, tick}
 use Rattle.bench.specs.History.{Call, releases, ticks, after, steps}
 use Rattle.benchpages.specs.Calls.{state_on}
@@ -70,7 +69,7 @@ pub record PollStarts (cores : ℕ) (table : Table) (start : Bench) (calls : Lis
   pub is_opened : opened cores table ≡ some start
   pub first : 1 ≤ place
   pub has_bound : place ≤ length (bounds_for cores table)
-  pub taken : (release (after start calls) place demand).outcome ≡ Taken
+  pub taken : (release (after start calls) place demand).outcome ≡ Ok tt
 
 -- Each poll ends. Whatever calls follow its release: once the clock is at release instant plus bound, a tick
 -- among them has listed its row as finished, within the bound.

@@ -2,12 +2,12 @@
 use Prim.Native.Nat.{ℕ}
 use mathlib.Core.Path.{◌≡◌, refl, sym, ap, ◌∙◌}
 use mathlib.Core.List.{List}
+use Rattle.std.specs.Prelude.{Err}
 use Rattle.bench.specs.History.{Call, releases, ticks, after, steps}
 use Rattle.bench.specs.Step.{Step, release, tick}
 use Rattle.bench.specs.declared.Bench.{Bench}
-use Rattle.bench.specs.declared.Outcome.{Outcome}
-use Rattle.bench.specs.declared.Outcome.TheVariants.{Refused}
 use Rattle.bench.specs.declared.Refusal.{Refusal}
+use Rattle.bench.specs.Refusal.{Outcome}
 use Rattle.bench.proofs.Steps.{refused_same}
 use Rattle.lentbench.specs.Lent.{LentRelease, LentTick, LentAnswer, answers_to, LentRun, over, released, ticked, RunsHistory}
 use Rattle.lentbench.specs.declared.TickAnswer.{TickAnswer}
@@ -23,11 +23,11 @@ one_tick step left left' answer answer' a b = (a.leaves ∙ sym b.leaves, a.answ
 
 -- A refused call leaves the lent bench as it was.
 pub refused_release_keeps : (b left : Bench) (place demand : ℕ) (why : Refusal)
-    → LentRelease (release b place demand) left (Refused why) → left ≡ b
+    → LentRelease (release b place demand) left (Err why) → left ≡ b
 refused_release_keeps b left place demand why meets =
     meets.leaves ∙ ap (λ (step : Step). step.bench) (refused_same b (releases place demand) why (sym meets.answers))
 
-pub refused_tick_keeps : (b left : Bench) (answer : TickAnswer) (why : Refusal) → answer.outcome ≡ Refused why
+pub refused_tick_keeps : (b left : Bench) (answer : TickAnswer) (why : Refusal) → answer.outcome ≡ Err why
     → LentTick (tick b) left answer → left ≡ b
 refused_tick_keeps b left answer why refused meets =
     meets.leaves

@@ -4,7 +4,7 @@ use Rattle.bench.specs.Ended.{finishes_of}
 use Rattle.bench.specs.History.{Call, releases, ticks, after, steps}
 use Rattle.bench.specs.Step.{Step, release, tick}
 use Rattle.bench.specs.declared.Bench.{Bench}
-use Rattle.bench.specs.declared.Outcome.{Outcome}
+use Rattle.bench.specs.Refusal.{Outcome}
 use Rattle.lentbench.specs.declared.TickAnswer.{TickAnswer}
 
 -- A release on a lent bench is a step: the bench is left as the step leaves it, and the outcome is the step's.

@@ -6,18 +6,18 @@ ghost use Rattle.bench.specs.History.{after};
 ghost use Rattle.bench.specs.Step.{release, tick};
 ghost use Rattle.lentbench.specs.Lent.{LentRelease, LentTick, ticks_for};
 
-use bench::{Bench, Finishes, Outcome};
+use bench::{Bench, Finishes, Refusal};
 use quantities::Ticks;
 
 // The answer to a tick of a lent bench: taken or refused, and the polls that ended.
 #[derive(Clone, Copy)]
 pub struct TickAnswer {
-    pub outcome: Outcome,
+    pub outcome: Result<(), Refusal>,
     pub finishes: Finishes,
 }
 
 // A poll of `demand` at `place` starts on the lent bench at its present instant; a refused release leaves it as it was.
-pub fn release(b: &mut Bench, place: usize, demand: Ticks) -> Outcome
+pub fn release(b: &mut Bench, place: usize, demand: Ticks) -> Result<(), Refusal>
     ensures { LentRelease (release b.old place demand.0) b.new result }
 {
     let released = Bench::release(*b, place, demand);
@@ -41,9 +41,7 @@ pub fn tick(b: &mut Bench) -> TickAnswer
 pub fn run(b: &mut Bench, ticks: Ticks)
     ensures { b.new ≡ after b.old (ticks_for ticks.0) }
 {
-    let mut i: u64 = 0;
-    while i < ticks.0 {
+    for _ in 0..ticks.0 {
         tick(b);
-        i += 1;
     }
 }

@@ -6,7 +6,7 @@ ghost use Rattle.bench.specs.History.{after};
 ghost use Rattle.bench.specs.Step.{released_of, ticked_of, release, tick};
 ghost use Rattle.lentbench.specs.Lent.{ticks_for};
 
-use bench::{Bench, Outcome, Released, Ticked};
+use bench::{Bench, Released, Ticked};
 use quantities::Ticks;
 use reading::{Call, read_bench, read_call};
 use std::io;
@@ -71,7 +71,7 @@ fn answer_call(output: &mut Stdout, bench: Bench, call: Call) -> io::Result<Benc
         }
         Call::Run(ticks) => {
             let left = lend_run(bench, ticks);
-            write_outcome(output, Outcome::Taken, 0)?;
+            write_outcome(output, Ok(()), 0)?;
             Ok(left)
         }
         Call::Tick => {

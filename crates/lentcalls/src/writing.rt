@@ -1,6 +1,6 @@
 //! The answers to calls and the bench after them, written to standard output.
 use crate::BENCH_SIZE;
-use bench::{Bench, Finish, Finishes, Outcome, Refusal, RowState};
+use bench::{Bench, Finish, Finishes, Refusal, RowState};
 use quantities::Row;
 use std::io;
 use std::io::{Stdout, Write};
@@ -40,42 +40,14 @@ pub fn write_bench(output: &mut Stdout, bench: &Bench) -> io::Result<()> {
     output.write_all(&out)
 }
 
-// The number that answers a call: 0 where it was taken.
-fn number_of(outcome: Outcome) -> u8 {
-    let Outcome::Refused(why) = outcome else {
-        return 0;
-    };
-    match why {
-        Refusal::NoPlace(_) => 20,
-        Refusal::Unfinished(_) => 21,
-        Refusal::TooSoon(_) => 22,
-        Refusal::WrongDemand(_) => 23,
-        Refusal::ClockEnd => 24,
-        Refusal::BrokenRecord => 29,
-    }
-}
-
-// The place that stands with it.
-fn place_of(outcome: Outcome) -> usize {
-    let Outcome::Refused(why) = outcome else {
-        return 0;
-    };
-    match why {
-        Refusal::NoPlace(place) => place,
-        Refusal::Unfinished(place) => place,
-        Refusal::TooSoon(place) => place,
-        Refusal::WrongDemand(place) => place,
-        Refusal::ClockEnd => 0,
-        Refusal::BrokenRecord => 0,
-    }
-}
-
-// The outcome of a call: its number, its place, and how many polls ended.
-pub fn write_outcome(output: &mut Stdout, outcome: Outcome, ended: usize) -> io::Result<()> {
+// The outcome of a call: its number, its place, and how many polls ended. Number and place are 0 where it was taken.
+pub fn write_outcome(output: &mut Stdout, outcome: Result<(), Refusal>, ended: usize) -> io::Result<()> {
     let [.., ended] = ended.to_be_bytes();
     let mut out = [0u8; 10];
-    out[0] = number_of(outcome);
-    out[1..9].copy_from_slice(&place_of(outcome).to_be_bytes());
+    if let Err(why) = outcome {
+        out[0] = why.number();
+        out[1..9].copy_from_slice(&why.place().to_be_bytes());
+    }
     out[9] = ended;
     output.write_all(&out)
 }

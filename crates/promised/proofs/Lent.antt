@@ -18,7 +18,7 @@ use Rattle.windows.specs.Answer.{judged_into}
 use Rattle.windows.specs.declared.Answer.{Answer}
 use Rattle.quantities.specs.Lengths.{numbers}
 use Rattle.bench.specs.declared.Bench.{Bench}
-use Rattle.bench.specs.declared.Outcome.{Outcome}
+use Rattle.bench.specs.Refusal.{Outcome}
 use Rattle.bench.specs.Step.{Step, release, served, moved, taken, tick, released_of, ticked_of}
 use Rattle.bench.specs.History.{ticks as a_tick, after}
 use Rattle.bench.proofs.Units.{length_worked}

@@ -36,11 +36,10 @@ use Rattle.bench.specs.declared.Bench.{Bench}
 use Rattle.bench.specs.declared.Finish.{Finish}
 use Rattle.bench.specs.declared.Request.{Request}
 use Rattle.bench.specs.declared.Request.TheVariants.{Release, Tick}
-use Rattle.bench.specs.declared.Outcome.{Outcome as CallOutcome}
 use Rattle.bench.specs.declared.Opening.{Opening}
 use Rattle.bench.specs.declared.Released.{Released}
 use Rattle.bench.specs.declared.Ticked.{Ticked}
-use Rattle.bench.specs.Refusal.{outcome_paper, release_tests, tick_tests, outcome_of}
+use Rattle.bench.specs.Refusal.{Outcome as CallOutcome, outcome_paper, release_tests, tick_tests, outcome_of}
 use Rattle.bench.specs.State.{broken}
 use Rattle.bench.specs.Ended.{finishes_of}
 use Rattle.bench.specs.Step.{opening_of, release, tick, released_of, ticked_of}

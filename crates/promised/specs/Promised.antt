@@ -28,12 +28,10 @@ use Rattle.bench.specs.declared.Bench.{Bench}
 use Rattle.bench.specs.declared.Finish.{Finish}
 use Rattle.bench.specs.declared.Request.{Request}
 use Rattle.bench.specs.declared.Request.TheVariants.{Release, Tick}
-use Rattle.bench.specs.declared.Outcome.{Outcome as CallOutcome}
-use Rattle.bench.specs.declared.Outcome.TheVariants.{Taken}
 use Rattle.bench.specs.declared.Opening.{Opening}
 use Rattle.bench.specs.declared.Released.{Released}
 use Rattle.bench.specs.declared.Ticked.{Ticked as TickedBench}
-use Rattle.bench.specs.Refusal.{outcome_paper}
+use Rattle.bench.specs.Refusal.{Outcome as CallOutcome, outcome_paper}
 use Rattle.replay.specs.declared.Replayed.{Replayed}
 use Rattle.replay.specs.declared.Replayed.TheVariants.{NotOpened, NoRoom}
 use Rattle.replay.specs.Replay.{requests_in}
@@ -230,7 +228,7 @@ RequestAnswer b (Release place demand) r =
 -- `Bench::judge_release` and `Bench::judge_tick`: the first check that fails, or that none does.
 pub record OutcomeBy (checks : List (Check Paper)) (r : CallOutcome) : Type 0 where
   pub turned_away : (one : Paper) → FirstFailing checks one → outcome_paper r ≡ paper one.number one.place
-  pub taken : Each (λ one. one.fails ≡ false) checks → r ≡ Taken
+  pub taken : Each (λ one. one.fails ≡ false) checks → r ≡ Ok tt
 
 -- `replay::replay`: every call answered where there is room for all answers; the answers to the first calls
 -- where there is none for the next one; and no answer on a board that is not opened.

@@ -16,7 +16,7 @@ ghost use Rattle.sheetpages.specs.Sheets.{blank_entry};
 ghost use Rattle.benchpages.specs.Calls.{release_order, tick_order};
 
 use analysis::Analysis;
-use bench::{Bench, Opening, Released, Request, Ticked};
+use bench::{Bench, Opening, Refusal, Released, Request, Ticked};
 use entries::Sheet;
 use lentrows::Told;
 use quantities::{Fault, Instant, Micros, Row, Table, Ticks};
@@ -115,13 +115,13 @@ pub fn answer_request(b: Bench, request: Request) -> Ticked
     b.answer(request)
 }
 
-pub fn judge_release(b: Bench, place: usize, demand: Ticks) -> bench::Outcome
+pub fn judge_release(b: Bench, place: usize, demand: Ticks) -> Result<(), Refusal>
     ensures { OutcomeBy (release_order b place demand.0) result }
 {
     b.judge_release(place, demand)
 }
 
-pub fn judge_tick(b: Bench) -> bench::Outcome
+pub fn judge_tick(b: Bench) -> Result<(), Refusal>
     ensures { OutcomeBy (tick_order b) result }
 {
     b.judge_tick()

@@ -6,7 +6,7 @@ use mathlib.Core.Path.{◌≡◌, refl, sym, ap, ◌∙◌}
 use mathlib.Core.List.{List, [], ◌∷◌, ◌++◌, map, cons-ne-nil, head-eq_of_cons-eq}
 use mathlib.Core.Option.{some}
 use lib.ListN.{replicate}
-use Rattle.std.specs.Prelude.{Some}
+use Rattle.std.specs.Prelude.{Some, Ok}
 use Rattle.laws.specs.Each.{Each}
 use Rattle.quantities.specs.Row.{row_of, no_row}
 use Rattle.quantities.specs.Table.{rows_of}
@@ -22,7 +22,6 @@ use Rattle.quantities.specs.declared.Instant.{Instant}
 use Rattle.bench.specs.declared.RowState.{RowState}
 use Rattle.bench.specs.declared.Bench.{Bench}
 use Rattle.bench.specs.declared.Finish.{Finish}
-use Rattle.bench.specs.declared.Outcome.TheVariants.{Taken}
 use Rattle.bench.specs.State.{last_broken, row_broken, rows_broken, is_fault, broken}
 use Rattle.bench.specs.Refusal.{too_soon, release_tests, tick_tests}
 use Rattle.bench.specs.Serving.{unit, units, after_units, worked, ends, since, finish_of, finished}
@@ -161,7 +160,7 @@ one_serves_once =
     }
   where
     idles : (c : Bench) (n : ℕ) → c.now.0 ≡ n → 1 ≤ n
-        → once c ≡ record { outcome = Taken; finishes = []; bench = later c c.states }
+        → once c ≡ record { outcome = Ok tt; finishes = []; bench = later c c.states }
     idles c zero e h = absurd (omega arith)
     idles c (suc n) e h = rw e refl
 

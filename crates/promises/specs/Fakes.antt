@@ -1,5 +1,5 @@
 -- The fakes that have to be caught: those of document 01, and a tool that judges rows out of order.
-use Rattle.std.specs.Prelude.{ℕ, ◌≤◌, ◌<◌, ◌≡◌, List, [], ◌∷◌, map, length, get_or}
+use Rattle.std.specs.Prelude.{ℕ, ◌≤◌, ◌<◌, ◌≡◌, List, [], ◌∷◌, map, length, get_or, Ok}
 use Rattle.std.proofs.Math.Option.{some}
 use Rattle.laws.specs.Each.{Each}
 use Rattle.quantities.specs.declared.Row.{Row}
@@ -15,7 +15,6 @@ use Rattle.text.specs.Text.{judged_text}
 use Rattle.sheetpages.specs.Sheets.{behind, blank_entry, WholeWith, RowRead}
 use Rattle.bench.specs.declared.Bench.{Bench}
 use Rattle.bench.specs.declared.Finish.{Finish}
-use Rattle.bench.specs.declared.Outcome.TheVariants.{Taken}
 use Rattle.bench.specs.Step.{Step, opened, release, later, tick}
 use Rattle.bench.specs.History.{Call, releases, ticks}
 use Rattle.bench.specs.Fakes.{once, inventing}
@@ -77,7 +76,7 @@ AsTheRecordsStand order =
 pub record ServesOnce (run : Bench → Step) : Type 0 where
   pub first_tick : (b : Bench) → b.now.0 ≡ 0 → run b ≡ tick b
   pub later_ticks : (b : Bench) → 1 ≤ b.now.0
-      → run b ≡ record { outcome = Taken; finishes = []; bench = later b b.states }
+      → run b ≡ record { outcome = Ok tt; finishes = []; bench = later b b.states }
 
 -- One that invents response times: it ticks rightly, and each poll that it lists has the clock's reading for
 -- its response.

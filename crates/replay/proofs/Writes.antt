@@ -9,9 +9,8 @@ use lib.ListN.{length, get_or, take, drop, set, length-append, length-take, drop
 use lib.Seq.{sets, length-sets, drop-cons, get_or-take}
 use Rattle.bench.specs.declared.Finish.{Finish}
 use Rattle.bench.specs.declared.Finishes.{Finishes}
-use Rattle.bench.specs.declared.Outcome.{Outcome}
 use Rattle.bench.specs.Ended.{no_finish}
-use Rattle.bench.specs.Refusal.{outcome_paper}
+use Rattle.bench.specs.Refusal.{Outcome, outcome_paper}
 use Rattle.replay.specs.Format.{byte_of, poll_bytes, polls_bytes, answer_of}
 
 -- stores of one list after another

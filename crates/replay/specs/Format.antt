@@ -3,9 +3,8 @@ use Rattle.std.specs.Prelude.{ℕ, ◌+◌, ◌*◌, ◌/◌, ◌%◌, true, fal
 use Rattle.std.proofs.Math.Option.{Option, none, some}
 use Rattle.bench.specs.declared.Request.{Request}
 use Rattle.bench.specs.declared.Request.TheVariants.{Release, Tick}
-use Rattle.bench.specs.declared.Outcome.{Outcome}
 use Rattle.bench.specs.declared.Finish.{Finish}
-use Rattle.bench.specs.Refusal.{outcome_paper}
+use Rattle.bench.specs.Refusal.{Outcome, outcome_paper}
 use Rattle.bench.specs.Step.{Step}
 use Rattle.replay.specs.declared.Read.{Read}
 use Rattle.replay.specs.declared.Read.TheVariants.{Nothing, Call}

@@ -8,7 +8,7 @@ ghost use Rattle.bench.specs.Refusal.{outcome_paper};
 ghost use Rattle.replay.specs.Format.{request_in, request_read, byte_of, poll_bytes, polls_bytes, answer_of};
 ghost use Rattle.replay.specs.Replay.{replay_from, replay};
 
-use bench::{Bench, Finish, Finishes, Outcome, Refusal, Request};
+use bench::{Bench, Finish, Finishes, Refusal, Request};
 use quantities::{Fault, Table, Ticks};
 
 // What stands where a call should be.
@@ -67,36 +67,24 @@ fn read_call(calls: &[u8], at: usize) -> Read
 }
 
 // The number that answers a call: 0 where it was taken.
-fn number_of(outcome: Outcome) -> u8
+#[tactic(auto, unfolding(bench::specs::Refusal::outcome_paper))]
+fn number_of(outcome: Result<(), Refusal>) -> u8
     ensures { result ≡ (outcome_paper outcome).number }
 {
-    let Outcome::Refused(why) = outcome else {
-        return 0;
-    };
-    match why {
-        Refusal::NoPlace(_) => 20,
-        Refusal::Unfinished(_) => 21,
-        Refusal::TooSoon(_) => 22,
-        Refusal::WrongDemand(_) => 23,
-        Refusal::ClockEnd => 24,
-        Refusal::BrokenRecord => 29,
+    match outcome {
+        Ok(()) => 0,
+        Err(why) => why.number(),
     }
 }
 
 // The place that stands with it.
-fn place_of(outcome: Outcome) -> usize
+#[tactic(auto, unfolding(bench::specs::Refusal::outcome_paper))]
+fn place_of(outcome: Result<(), Refusal>) -> usize
     ensures { result ≡ (outcome_paper outcome).place }
 {
-    let Outcome::Refused(why) = outcome else {
-        return 0;
-    };
-    match why {
-        Refusal::NoPlace(place) => place,
-        Refusal::Unfinished(place) => place,
-        Refusal::TooSoon(place) => place,
-        Refusal::WrongDemand(place) => place,
-        Refusal::ClockEnd => 0,
-        Refusal::BrokenRecord => 0,
+    match outcome {
+        Ok(()) => 0,
+        Err(why) => why.place(),
     }
 }
 
@@ -148,7 +136,7 @@ fn put_polls(out: &mut [u8], from: usize, polls: Finishes)
 }
 
 // The answer to a call: number, place, how many polls ended, and these.
-fn put_answer(out: &mut [u8], at: usize, outcome: Outcome, polls: Finishes)
+fn put_answer(out: &mut [u8], at: usize, outcome: Result<(), Refusal>, polls: Finishes)
     requires { (polls.count ≤ row_capacity) × (at + 3 + 5 * polls.count ≤ length out.old) }
     ensures { out.new ≡ sets out.old at (answer_of outcome (take polls.count polls.list)) }
 {

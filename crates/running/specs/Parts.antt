@@ -1,5 +1,5 @@
 -- The parts that demand 3 rests on, left open: the promise as a statement about any choice of them.
-use Rattle.std.specs.Prelude.{ℕ, ◌+◌, ◌-◌, ◌*◌, ◌/◌, ◌%◌, ◌≤◌, min, ◌≡◌, Bool, true, false, List, [], ◌∷◌, ltb, length, take}
+use Rattle.std.specs.Prelude.{ℕ, ◌+◌, ◌-◌, ◌*◌, ◌/◌, ◌%◌, ◌≤◌, min, ◌≡◌, Bool, true, false, List, [], ◌∷◌, ltb, length, take, Ok}
 use Rattle.std.proofs.Math.Option.{none, some}
 use Rattle.laws.specs.Checks.{first_failing}
 use Rattle.laws.specs.Each.{Each}
@@ -12,7 +12,6 @@ use Rattle.windows.specs.Choice.{Bounded, bounded, Load, most}
 use Rattle.windows.specs.Least.{least}
 use Rattle.windows.specs.Bound.{bounds_below}
 use Rattle.bench.specs.declared.Bench.{Bench}
-use Rattle.bench.specs.declared.Outcome.TheVariants.{Taken}
 use Rattle.bench.specs.State.{rows}
 use Rattle.bench.specs.Refusal.{release_tests}
 use Rattle.bench.specs.Serving.{workers}
@@ -104,7 +103,7 @@ idling b =
 unfoldable pub early : Bench → Call → Step
 early b (releases place demand) =
     unless_refused (first_failing (release_tests (later b) place demand))
-    (record { outcome = Taken; finishes = []; bench = started b place demand })
+    (record { outcome = Ok tt; finishes = []; bench = started b place demand })
     b
 early b ticks = tick b
 

@@ -1,5 +1,5 @@
 -- run: one tick of the lent bench is the history of one tick more.
-use Rattle.std.proofs.Common.{◌≡◌, ℕ, zero, suc, ◌+◌, refl, ap, ◌∙◌, add-one, arith}
+use Rattle.std.proofs.Common.{◌≡◌, ℕ, zero, suc, ◌+◌, refl, ap, ◌∙◌, add-one}
 use Rattle.bench.specs.declared.Bench.{Bench}
 use Rattle.bench.specs.History.{after}
 use Rattle.bench.specs.Step.{tick}
@@ -14,14 +14,12 @@ one_more i h = rw add-one (go i h)
     go zero b = refl
     go (suc k) b = go k (tick b).bench
 
-pub loop-i-init : goal.loop-i-init
+pub loop-init : goal.loop-init
 unfolding after ticks_for
-loop-i-init c = (omega arith, refl)
+loop-init c = refl
 
-pub loop-i-preserved : goal.loop-i-preserved
-loop-i-preserved c = (
-  omega arith,
-  c.tick.ensures.leaves
-      ∙ ap (λ (b : Bench). (tick b).bench) c.loop-i.invariant.1
-      ∙ one_more c.loop-i.i c.args.b.now,
-)
+pub loop-preserved : goal.loop-preserved
+loop-preserved c =
+    c.tick.ensures.leaves
+    ∙ ap (λ (b : Bench). (tick b).bench) c.loop.invariant
+    ∙ one_more c.loop.counter c.args.b.now

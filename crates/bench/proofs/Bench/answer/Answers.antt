@@ -10,4 +10,4 @@ returns-in-Tick c = simp c.in-Tick.is c.tick.ensures
 pub returns-in-Release : goal.returns-in-Release
 unfolding call_of
 returns-in-Release c =
-    simp c.in-Release.is (released_answer c.args.self c.in-Release.place c.in-Release.demand.0 c.release-released.result c.release-released.ensures c.none-finishes.result c.none-finishes.ensures)
+    simp c.in-Release.is (released_answer c.args.self c.in-Release.place c.in-Release.demand.0 c.release-released.result c.release-released.ensures c.none.result c.none.ensures)

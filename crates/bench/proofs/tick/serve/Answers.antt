@@ -19,8 +19,8 @@ loop-i-preserved c =
     serves_next b c.loop-i.states c.loop-i.free c.loop-i.finishes i c.loop-i.invariant (omega arith) (omega arith)
     c.serve_row-turn.result
     c.serve_row-turn.ensures
-    (record { place = i + 1; response = c.since-response.result })
-    (rw c.since-response.ensures)
+    (record { place = i + 1; response = c.since.result })
+    (rw c.since.ensures)
     c.noted-finishes.result
     c.noted-finishes.ensures
 
