@@ -1,9 +1,7 @@
 -- The room for the input, and what was read: it lies within the room; of the bytes themselves nothing can be said.
-use Rattle.std.specs.Prelude.{◌≡◌, List, ℕ, take}
+use Rattle.std.specs.Prelude.{◌≡◌, List, ℕ, Result, Ok, Err, take}
 use Rattle.streams.specs.Counts.{IsPrefixLen}
 use Rattle.text.specs.Text.{text_of}
-use Rattle.dipperslate.specs.declared.Input.{Input}
-use Rattle.dipperslate.specs.declared.Input.TheVariants.{Bytes, Failed}
 
 -- the program reads at most 1,024 bytes
 abbrev pub input_room : ℕ
@@ -18,6 +16,6 @@ abbrev pub RoomDecides : Type 0
 RoomDecides = (sheet : List ℕ) → text_of (take input_room sheet) ≡ text_of sheet
 
 -- this many bytes of the room were read, or a read failed
-abbrev pub Within : Input → List ℕ → Type 0
-Within (Bytes n) room = IsPrefixLen n room
-Within Failed room = Unit {0}
+abbrev pub Within : {E : Type 0} → Result ℕ E → List ℕ → Type 0
+Within (Ok n) room = IsPrefixLen n room
+Within (Err why) room = Unit {0}

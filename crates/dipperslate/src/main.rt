@@ -7,14 +7,8 @@ ghost use Rattle.text.specs.Text.{text_of};
 ghost use Rattle.text.specs.Printed.{text_room};
 ghost use Rattle.dipperslate.specs.Reading.{input_room, Within};
 
-use std::io::{Error, Read, Stderr, Stdin, Stdout};
-
-// What was read: this many bytes, or nothing, since a read failed.
-#[derive(Clone, Copy)]
-enum Input {
-    Bytes(usize),
-    Failed,
-}
+use std::io;
+use std::io::{Read, Stderr, Stdin, Stdout};
 
 // So many bytes of standard input are read, and no more.
 const INPUT_ROOM: usize = 1024;
@@ -30,30 +24,25 @@ fn room() -> [u8; INPUT_ROOM]
 }
 
 // Says on the error stream what failed, and the system's words for it; where that fails too, nothing can be said.
-fn tell(errors: Stderr, what: &str, why: Error) {
+fn tell(errors: Stderr, what: &str, why: io::Error) {
     let _ = eprintln!(errors; "{what}: {why}");
 }
 
-// Reads until the input is full or at its end, however the bytes arrive. A read that fails is told.
-fn read_input(mut from: Stdin, errors: Stderr, input: &mut [u8]) -> Input
+// Reads until the input is full or at its end, however the bytes arrive, and answers how many there are.
+// Kept: a loop beside streams' `read_full`, which stops at a failed read as at the end; edit reads_on_at_the_end.
+fn read_input(mut from: Stdin, input: &mut [u8]) -> io::Result<usize>
     requires { length input.old ≡ input_room }
     ensures { Within result input.new }
 {
     let mut n: usize = 0;
     while n < input.len() {
-        let more = match from.read(&mut input[n..]) {
-            Ok(more) => more,
-            Err(why) => {
-                tell(errors, "standard input", why);
-                return Input::Failed;
-            }
-        };
+        let more = from.read(&mut input[n..])?;
         if more == 0 {
-            return Input::Bytes(n);
+            break;
         }
         n += more;
     }
-    Input::Bytes(n)
+    Ok(n)
 }
 
 // Puts the text of a sheet's answer at the front of a buffer that has room for it, and answers how many bytes it has.
@@ -65,21 +54,21 @@ fn put_answer(sheet: &[u8], out: &mut [u8]) -> usize
 }
 
 // Prints the answer to a sheet.
-fn print(output: Stdout, errors: Stderr, sheet: &[u8]) {
+fn print(output: Stdout, sheet: &[u8]) -> io::Result<()> {
     let mut out = [0u8; ANSWER_ROOM];
     let count = put_answer(sheet, &mut out);
-    match output.write_all(&out[..count]) {
-        Ok(()) => {}
-        Err(why) => tell(errors, "standard output", why),
-    }
+    output.write_all(&out[..count])
 }
 
-// Where a read fails, the error stream says so and no answer is printed.
+// Where a read fails, the error stream says so and no answer is printed; a write that fails is told too.
 fn main(rt: HostRuntime) {
     let mut input = room();
-    let found = read_input(rt.stdin(), rt.stderr(), &mut input);
-    match found {
-        Input::Bytes(n) => print(rt.stdout(), rt.stderr(), &input[..n]),
-        Input::Failed => {}
+    match read_input(rt.stdin(), &mut input) {
+        Ok(n) => {
+            if let Err(why) = print(rt.stdout(), &input[..n]) {
+                tell(rt.stderr(), "standard output", why);
+            }
+        }
+        Err(why) => tell(rt.stderr(), "standard input", why),
     }
 }

@@ -5,7 +5,5 @@ use Rattle.dipperslate.proofs.put_answer.Goals as goal
 
 pub returns : goal.returns
 returns c =
-    let printed = c.print_answer in (
-      (printed.ensures.within, printed.ensures.part),
-      (text_in_front c.args.sheet.now c.args.out.now printed.new.out printed.result (search rules) printed.ensures).0,
-    )
+    let printed = c.print_answer.ensures in
+    ((printed.within, printed.part), (text_in_front _ c.args.out.now _ _ (search rules) printed).0)
