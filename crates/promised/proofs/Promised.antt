@@ -23,7 +23,11 @@ use Rattle.windows.specs.declared.Answer.TheVariants.{NotShown}
 use Rattle.windows.proofs.Into.{into_refused, into_room}
 use Rattle.records.specs.declared.Record.{Record}
 use Rattle.records.specs.declared.Record.TheVariants.{Missing, Unknown, Cut, Board, Row as RowOf, End}
-use Rattle.records.specs.Records.{record_length, record_on, size_on, is_end}
+use Rattle.std.specs.Prelude.{Result, Ok, Err}
+use Rattle.records.specs.declared.Kind.{Kind}
+use Rattle.records.specs.declared.Kind.TheVariants as kinds
+use Rattle.records.specs.declared.UnknownKind.{UnknownKind}
+use Rattle.records.specs.Records.{StandsFor, record_length, record_on, size_on, is_end}
 use Rattle.sheet.specs.Reader.{read_of}
 use Rattle.sheet.specs.declared.Outcome.{Outcome}
 use Rattle.text.specs.Printed.{Printed}
@@ -64,7 +68,7 @@ use Rattle.benchpages.proofs.Openings.{opening_refused, opening_taken, ended_lis
 use Rattle.benchpages.proofs.Moves.{release_starts, tick_serves}
 use Rattle.benchpages.proofs.CallBytes.{replay_answered, replay_no_room, replay_not_opened}
 use Rattle.promised.specs.Promised.{SheetAnswer, TextAnswer, AnalysisAnswer, TableAnswer}
-use Rattle.promised.specs.Promised.{RecordAnswer, size_is, EndAnswer, ToldAnswer}
+use Rattle.promised.specs.Promised.{KindAnswer, RecordAnswer, size_is, EndAnswer, ToldAnswer}
 use Rattle.promised.specs.Promised.{NoRows, OneRowMore, OpeningAnswer, ReleaseAnswer, TickAnswer}
 use Rattle.promised.specs.Promised.{BrokenAnswer, RequestAnswer, OutcomeBy, ReplayAnswer, AnswerForC}
 
@@ -140,6 +144,37 @@ record_answer part r is =
       row = λ label priority c d t rest fits e.
           is ∙ ap record_on e ∙ (records_come_back.row label priority c d t rest fits).1;
       end = λ count rest fits e. is ∙ ap record_on e ∙ (records_come_back.end count rest fits).1;
+    }
+
+pub kind_answer : (byte : ℕ) (r : Result Kind UnknownKind) → StandsFor byte r → KindAnswer byte r
+unfolding record_length
+kind_answer byte (Ok kinds.Board) is =
+    record {
+      board = λ e. refl;
+      row = λ e. absurd (omega arith);
+      end = λ e. absurd (omega arith);
+      unknown = λ one two three. absurd (one (omega arith));
+    }
+kind_answer byte (Ok kinds.Row) is =
+    record {
+      board = λ e. absurd (omega arith);
+      row = λ e. refl;
+      end = λ e. absurd (omega arith);
+      unknown = λ one two three. absurd (two (omega arith));
+    }
+kind_answer byte (Ok kinds.End) is =
+    record {
+      board = λ e. absurd (omega arith);
+      row = λ e. absurd (omega arith);
+      end = λ e. refl;
+      unknown = λ one two three. absurd (three (omega arith));
+    }
+kind_answer byte (Err other) is =
+    record {
+      board = λ e. absurd (omega (arith, rw e at is.1));
+      row = λ e. absurd (omega (arith, rw e at is.1));
+      end = λ e. absurd (omega (arith, rw e at is.1));
+      unknown = λ one two three. ap (λ (n : ℕ). Err (record { 0 = n })) is.0;
     }
 
 pub size_answer : (part : List ℕ) (r : ℕ) → r ≡ size_on part → r ≡ size_is part

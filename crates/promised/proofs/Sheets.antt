@@ -22,7 +22,8 @@ use Rattle.quantities.specs.Paper.{Paper}
 use Rattle.entries.specs.declared.Sheet.{Sheet}
 use Rattle.sheet.specs.declared.FirstSheet.{FirstSheet}
 use Rattle.sheet.specs.declared.Outcome.{Outcome}
-use Rattle.sheet.specs.declared.Verdict.TheVariants.{Sound, Refused}
+use Rattle.std.specs.Prelude.{Ok, Err}
+use Rattle.sheet.specs.Checks.{fault}
 use Rattle.sheet.specs.Reader.{refused, unread, ended, first_sheet_of, read_of}
 use Rattle.entries.specs.Entries.{ticks_of, row_in, board_sheet, entries_of, used, inserted, with_entry, table_in, table_of}
 use Rattle.entries.proofs.Entries.{used_here, used_below}
@@ -63,11 +64,11 @@ first_sheet_answer bytes r is =
     outcome_of f = record { verdict = f.verdict; sheet = f.sheet }
 
     own_fault : (one : Paper) → (one.number ≡ 18 → ⊥)
-        → ((first_sheet_of bytes).verdict ≡ Refused one.number one.place)
-        ⊎ (((first_sheet_of bytes).verdict ≡ Sound) × ((first_sheet_of bytes).end < length bytes)
+        → ((first_sheet_of bytes).verdict ≡ Err (fault one.number one.place))
+        ⊎ (((first_sheet_of bytes).verdict ≡ Ok tt) × ((first_sheet_of bytes).end < length bytes)
         × (one.number ≡ 18) × (one.place ≡ (first_sheet_of bytes).end))
-        → (first_sheet_of bytes).verdict ≡ Refused one.number one.place
-    own_fault one other (inl fault) = fault
+        → (first_sheet_of bytes).verdict ≡ Err (fault one.number one.place)
+    own_fault one other (inl own) = own
     own_fault one other (inr more) = absurd (other more.2)
 
 pub no_entries : (cores : ℕ) (tick : Micros) (r : Sheet) → r ≡ board_sheet cores tick → NoEntries cores tick r

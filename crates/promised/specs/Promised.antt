@@ -15,11 +15,13 @@ use Rattle.laws.specs.Checks.{Check, FirstFailing}
 use Rattle.quantities.specs.Lengths.{numbers}
 use Rattle.windows.specs.declared.Answer.{Answer}
 use Rattle.windows.specs.declared.Answer.TheVariants.{Shown, NotShown, Refused}
+use Rattle.records.specs.declared.Kind.{Kind}
+use Rattle.records.specs.declared.Kind.TheVariants as kinds
+use Rattle.records.specs.declared.UnknownKind.{UnknownKind}
 use Rattle.records.specs.declared.Record.{Record}
 use Rattle.records.specs.declared.Record.TheVariants.{Missing, Unknown, Cut, Board, Row as RowOf, End}
 use Rattle.records.specs.declared.RowFields.{RowFields}
 use Rattle.entries.specs.declared.Sheet.{Sheet}
-use Rattle.sheet.specs.declared.Verdict.TheVariants.{Sound as SoundSheet}
 use Rattle.sheet.specs.declared.FirstSheet.{FirstSheet}
 use Rattle.sheet.specs.declared.Outcome.{Outcome}
 use Rattle.analysis.specs.declared.Analysis.{Analysis}
@@ -49,14 +51,14 @@ use Rattle.benchpages.specs.CallBytes.{answers_to, ReplayAnswers}
 -- `sheet::read`: a sheet without fault is taken, with what stands on it; one with a fault is turned away by
 -- its first one.
 pub record SheetAnswer (sheet : List ℕ) (r : Outcome) : Type 0 where
-  pub whole : (n : ℕ) → WholeWith sheet n → (r.verdict ≡ SoundSheet) × SheetRead sheet n r.sheet
+  pub whole : (n : ℕ) → WholeWith sheet n → (r.verdict ≡ Ok tt) × SheetRead sheet n r.sheet
   pub faulty : (one : Paper) → FirstFault sheet one → TurnedAway one.number one.place r
 
 -- `sheet::read_first`: a sheet without fault is taken, with what stands on it and the place behind it, whatever bytes
 -- follow there; bytes with another first fault than 18, bytes after the end record, are turned away by it, with no end.
 pub record FirstSheetAnswer (bytes : List ℕ) (r : FirstSheet) : Type 0 where
   pub whole : (sheet rest : List ℕ) (n : ℕ) → WholeWith sheet n → bytes ≡ sheet ++ rest
-      → (r.verdict ≡ SoundSheet) × (r.end ≡ length sheet) × SheetRead sheet n r.sheet
+      → (r.verdict ≡ Ok tt) × (r.end ≡ length sheet) × SheetRead sheet n r.sheet
   pub faulty : (one : Paper) → FirstFault bytes one → (one.number ≡ 18 → ⊥)
       → (r.end ≡ 0) × TurnedAway one.number one.place (record { verdict = r.verdict; sheet = r.sheet })
 
@@ -144,9 +146,9 @@ pub record RecordAnswer (part : List ℕ) (r : Record) : Type 0 where
   pub no_byte : part ≡ [] → r ≡ Missing
   pub unknown : (kind : ℕ) (rest : List ℕ) → part ≡ kind ∷ rest
       → (kind ≡ 1 → ⊥) → (kind ≡ 2 → ⊥) → (kind ≡ 3 → ⊥) → r ≡ Unknown
-  pub cut_board : (rest : List ℕ) → part ≡ 1 ∷ rest → length rest < 3 → r ≡ Cut 1
-  pub cut_row : (rest : List ℕ) → part ≡ 2 ∷ rest → length rest < 16 → r ≡ Cut 2
-  pub cut_end : part ≡ 3 ∷ [] → r ≡ Cut 3
+  pub cut_board : (rest : List ℕ) → part ≡ 1 ∷ rest → length rest < 3 → r ≡ Cut kinds.Board
+  pub cut_row : (rest : List ℕ) → part ≡ 2 ∷ rest → length rest < 16 → r ≡ Cut kinds.Row
+  pub cut_end : part ≡ 3 ∷ [] → r ≡ Cut kinds.End
   pub board : (cores tick : ℕ) (rest : List ℕ) → BoardFits cores tick → part ≡ board_bytes cores tick ++ rest
       → r ≡ Board cores (record { 0 = tick })
   pub row : (label priority c d t : ℕ) (rest : List ℕ) → RowFits label priority c d t
@@ -161,6 +163,13 @@ pub record RecordAnswer (part : List ℕ) (r : Record) : Type 0 where
         t = record { 0 = t };
       })
   pub end : (count : ℕ) (rest : List ℕ) → count < 256 → part ≡ end_bytes count ++ rest → r ≡ End count
+
+-- `records::Kind::try_from`: the kind that a byte stands for, or the byte where it is not 1, 2 or 3.
+pub record KindAnswer (byte : ℕ) (r : Result Kind UnknownKind) : Type 0 where
+  pub board : byte ≡ 1 → r ≡ Ok kinds.Board
+  pub row : byte ≡ 2 → r ≡ Ok kinds.Row
+  pub end : byte ≡ 3 → r ≡ Ok kinds.End
+  pub unknown : (byte ≡ 1 → ⊥) → (byte ≡ 2 → ⊥) → (byte ≡ 3 → ⊥) → r ≡ Err (record { 0 = byte })
 
 -- `records::size_on`: the bytes that the record on a part takes, also where it is cut short; 0 where there is no kind.
 abbrev pub size_is : List ℕ → ℕ

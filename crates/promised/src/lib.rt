@@ -9,7 +9,7 @@ ghost use Rattle.promised.specs.Promised.{AnalysisAnswer, TableAnswer};
 ghost use Rattle.promised.specs.Promised.{NoRows, OneRowMore, OpeningAnswer, ReleaseAnswer};
 ghost use Rattle.promised.specs.Promised.{BrokenAnswer, TickAnswer, RequestAnswer, OutcomeBy};
 ghost use Rattle.promised.specs.Promised.{ReplayAnswer, AnswerForC, ToldAnswer};
-ghost use Rattle.promised.specs.Promised.{RecordAnswer, size_is, EndAnswer, RowsOfEntries, RowAnswer};
+ghost use Rattle.promised.specs.Promised.{KindAnswer, RecordAnswer, size_is, EndAnswer, RowsOfEntries, RowAnswer};
 ghost use Rattle.promised.specs.Promised.{NoEntries, UsedAnswer, EntryAnswer};
 ghost use Rattle.rowpages.specs.Windows.{interferes};
 ghost use Rattle.sheetpages.specs.Sheets.{blank_entry};
@@ -20,7 +20,7 @@ use bench::{Bench, Opening, Refusal, Released, Request, Ticked};
 use entries::Sheet;
 use lentrows::Told;
 use quantities::{Fault, Instant, Micros, Row, Table, Ticks};
-use records::{Record, RowFields};
+use records::{Kind, Record, RowFields, UnknownKind};
 use replay::Replayed;
 use sheet::{FirstSheet, Outcome};
 
@@ -131,6 +131,12 @@ pub fn is_broken(b: Bench) -> bool
     ensures { BrokenAnswer b result }
 {
     b.broken()
+}
+
+pub fn kind_of_byte(byte: u8) -> Result<Kind, UnknownKind>
+    ensures { KindAnswer byte result }
+{
+    Kind::try_from(byte)
 }
 
 pub fn record_at(part: &[u8]) -> Record

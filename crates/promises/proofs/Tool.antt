@@ -231,7 +231,7 @@ goes_the_whole_way =
     record {
       whole = whole_way;
       faulty = λ sheet first fault.
-          text_unread sheet (read_of sheet) refl first.number first.place (sheet_turned_away sheet first fault).answers
+          text_unread sheet (read_of sheet) refl _ (sheet_turned_away sheet first fault).answers
           ∙ refused_text_lem first.number first.place;
     }
 

@@ -1,5 +1,5 @@
 -- The fakes that have to be caught: those of document 01, and a tool that judges rows out of order.
-use Rattle.std.specs.Prelude.{ℕ, ◌≤◌, ◌<◌, ◌≡◌, List, [], ◌∷◌, map, length, get_or, Ok}
+use Rattle.std.specs.Prelude.{ℕ, ◌≤◌, ◌<◌, ◌≡◌, List, [], ◌∷◌, map, length, get_or, Ok, Err}
 use Rattle.std.proofs.Math.Option.{some}
 use Rattle.laws.specs.Each.{Each}
 use Rattle.quantities.specs.declared.Row.{Row}
@@ -10,7 +10,6 @@ use Rattle.windows.specs.declared.Answer.TheVariants.{Shown}
 use Rattle.windows.specs.Answer.{judged, judged_into}
 use Rattle.entries.specs.Entries.{entries_of, table_of}
 use Rattle.sheet.specs.Reader.{read_of}
-use Rattle.sheet.specs.declared.Verdict.TheVariants.{Sound, Refused}
 use Rattle.text.specs.Text.{judged_text}
 use Rattle.sheetpages.specs.Sheets.{behind, blank_entry, WholeWith, RowRead}
 use Rattle.bench.specs.declared.Bench.{Bench}
@@ -32,7 +31,7 @@ TurnsEverythingAway judge = (cores : ℕ) (rows : List Row) → (judge cores row
 
 -- or a reader that takes no sheet
 abbrev pub TakesNoSheet : Reader → Type 0
-TakesNoSheet read = (sheet : List ℕ) → (read sheet).verdict ≡ Sound → ⊥
+TakesNoSheet read = (sheet : List ℕ) → (read sheet).verdict ≡ Ok tt → ⊥
 
 -- one that answers C for each row
 abbrev pub AnswersTheCost : Judge → Type 0
@@ -62,8 +61,8 @@ judges_in_order order sheet =
     let found = (read_of sheet).sheet in
     let rows = rows_of (table_of found) in
     elim (read_of sheet).verdict [
-      | Refused number place ↦ refused_text number place
-      | Sound ↦ judged_text found rows (judged found.cores (order rows))
+      | Err fault ↦ refused_text fault.number fault.place
+      | Ok _ ↦ judged_text found rows (judged found.cores (order rows))
     ]
 
 -- the order in which the records of document 01's sheet stand: the row of priority 10 before that of priority

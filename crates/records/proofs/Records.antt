@@ -4,14 +4,19 @@ use native.Mathlib.Omega.{arith}
 use mathlib.Core.Path.{◌≡◌, refl, ap, ◌∙◌}
 use mathlib.Core.Bool.{Bool, true, false, cond}
 use mathlib.Core.List.{List, [], ◌∷◌}
-use lib.Dec.{eqb}
+use lib.Dec.{eqb, ltb}
 use lib.ListN.{length, get_or}
 use native.Mathlib.Decide.{ℕ_discrete, dec_le}
 use borrow.Author.Tests.{eq-eqb, ne_eqb, lt-ltb, le-ltb, eqb-true}
 use Rattle.laws.proofs.Tests.{not_one}
 use Rattle.records.specs.Records.{board_kind, row_kind, end_kind, board_length, row_length, end_length, longest_record}
 use Rattle.records.specs.Records.{record_length, is_row_kind, kind_on, size_on, cores_on, tick_on, count_on}
-use Rattle.records.specs.Records.{row_fields, whole_record, record_on}
+use Rattle.records.specs.Records.{row_fields, kind_number, kind_of, whole_record, record_on}
+use Rattle.std.specs.Prelude.{Some, None, slice_get}
+use Rattle.records.specs.Bytes.{field}
+use Rattle.records.proofs.Bytes.{field_one}
+use Rattle.records.specs.declared.Kind.{Kind}
+use Rattle.records.specs.declared.Kind.TheVariants as kinds
 use Rattle.records.specs.declared.Record.{Record}
 use Rattle.records.specs.declared.Record.TheVariants.{Missing, Unknown, Cut, Board, Row, End}
 
@@ -87,14 +92,6 @@ module _ (part : List ℕ) where
       at [] e = refl
       at (kind ∷ body) e = absurd (omega arith)
 
-  pub size_nothing : length part ≡ 0 → size_on part ≡ 0
-  unfolding record_length
-  size_nothing = at part
-    where
-      at : (some : List ℕ) → length some ≡ 0 → size_on some ≡ 0
-      at [] e = refl
-      at (kind ∷ body) e = absurd (omega arith)
-
   pub on_unknown : 0 < length part → record_length (get_or part 0 0) ≡ 0 → record_on part ≡ Unknown
   unfolding record_on
   on_unknown = at part
@@ -104,12 +101,12 @@ module _ (part : List ℕ) where
       at (kind ∷ body) h e = simp (eq-eqb (record_length kind) 0 e)
 
   pub on_cut : 0 < length part → (record_length (get_or part 0 0) ≡ 0 → ⊥) → length part < record_length (get_or part 0 0)
-      → record_on part ≡ Cut (get_or part 0 0)
+      → record_on part ≡ Cut (kind_of (get_or part 0 0))
   unfolding record_on
   on_cut = at part
     where
       at : (some : List ℕ) → 0 < length some → (record_length (get_or some 0 0) ≡ 0 → ⊥) → length some < record_length (get_or some 0 0)
-          → record_on some ≡ Cut (get_or some 0 0)
+          → record_on some ≡ Cut (kind_of (get_or some 0 0))
       at [] h known short = absurd (omega arith)
       at (kind ∷ body) h known short =
           simp (ne_eqb (record_length kind) 0 known, lt-ltb (suc (length body)) (record_length kind) short)
@@ -125,6 +122,66 @@ module _ (part : List ℕ) where
       at (kind ∷ body) h known long =
           simp (ne_eqb (record_length kind) 0 known, le-ltb (suc (length body)) (record_length kind) long)
 
+-- the kind that a byte stands for has this byte
+pub number_of_kind : (byte : ℕ) → 0 < record_length byte → kind_number (kind_of byte) ≡ byte
+unfolding record_length kind_of
+number_of_kind byte some =
+    elim (ℕ_discrete byte board_kind) [
+      | yes b ↦ rw b refl
+      | no no_board ↦
+          elim (ℕ_discrete byte row_kind) [
+            | yes r ↦ rw r refl
+            | no no_row ↦
+                let e = other_is_end byte no_board no_row (omega arith) in
+                rw e refl
+          ]
+    ]
+
+-- What stands on a part, by its first byte.
+pub on_none : (part : List ℕ) → slice_get part 0 ≡ None → record_on part ≡ Missing
+unfolding record_on
+on_none [] e = refl
+on_none (byte ∷ body) e = cc
+
+pub on_no_kind : (part : List ℕ) (byte : ℕ) → slice_get part 0 ≡ Some byte → record_length byte ≡ 0 → record_on part ≡ Unknown
+unfolding record_on
+on_no_kind [] byte e none = cc
+on_no_kind (first ∷ body) byte e none =
+    let same : first ≡ byte = cc in
+    on_unknown (first ∷ body) (omega arith) (ap record_length same ∙ none)
+
+kind_first : (kind : Kind) (body : List ℕ)
+    → record_on (kind_number kind ∷ body)
+    ≡ cond
+    (ltb (suc (length body)) (record_length (kind_number kind)))
+    (Cut kind)
+    (whole_record (kind_number kind) (kind_number kind ∷ body))
+unfolding record_on record_length kind_of
+kind_first kinds.Board body = refl
+kind_first kinds.Row body = refl
+kind_first kinds.End body = refl
+
+on_kind : (part : List ℕ) (kind : Kind) → slice_get part 0 ≡ Some (kind_number kind)
+    → record_on part
+    ≡ cond (ltb (length part) (record_length (kind_number kind))) (Cut kind) (whole_record (kind_number kind) part)
+on_kind [] kind e = cc
+on_kind (first ∷ body) kind e =
+    let same : first ≡ kind_number kind = cc in
+    rw same (kind_first kind body)
+
+pub on_short : (part : List ℕ) (kind : Kind) → slice_get part 0 ≡ Some (kind_number kind)
+    → length part < record_length (kind_number kind) → record_on part ≡ Cut kind
+on_short part kind e short = on_kind part kind e ∙ simp (lt-ltb _ _ short)
+
+on_long : (part : List ℕ) (kind : Kind) → slice_get part 0 ≡ Some (kind_number kind)
+    → record_length (kind_number kind) ≤ length part → record_on part ≡ whole_record (kind_number kind) part
+on_long part kind e long = on_kind part kind e ∙ simp (le-ltb _ _ long)
+
+pub size_none : (part : List ℕ) → slice_get part 0 ≡ None → size_on part ≡ 0
+unfolding record_length
+size_none [] e = refl
+size_none (byte ∷ body) e = cc
+
 -- A whole record by its kind.
 module _ (kind : ℕ) (part : List ℕ) where
   pub whole_board : kind ≡ board_kind → whole_record kind part ≡ Board (cores_on part) (tick_on part)
@@ -139,11 +196,31 @@ module _ (kind : ℕ) (part : List ℕ) where
   unfolding whole_record is_row_kind
   whole_end no_board no_row = simp (ne_eqb kind board_kind no_board, ne_eqb kind row_kind no_row)
 
+-- A whole record by the kind that its first byte stands for.
+module _ (part : List ℕ) (kind : Kind) (first : slice_get part 0 ≡ Some (kind_number kind))
+    (long : record_length (kind_number kind) ≤ length part) where
+  pub long_board : kind ≡ kinds.Board → record_on part ≡ Board (get_or part 1 0) (record { 0 = field 2 2 part })
+  unfolding record_length
+  long_board e =
+      let four : 4 ≤ length part = rw e at long in
+      on_long part kind first long ∙ rw (e, whole_board board_kind part refl, field_one part 1 (omega arith))
+
+  pub long_row : kind ≡ kinds.Row → record_on part ≡ Row (row_fields part)
+  unfolding is_row_kind
+  long_row e = on_long part kind first long ∙ rw (e, whole_row row_kind part (λ b. omega arith) refl)
+
+  pub long_end : kind ≡ kinds.End → record_on part ≡ End (get_or part 1 0)
+  unfolding record_length
+  long_end e =
+      let two : 2 ≤ length part = rw e at long in
+      on_long part kind first long
+      ∙ rw (e, whole_end end_kind part (λ b. omega arith) (λ r. omega arith), field_one part 1 (omega arith))
+
 -- What can stand on a part, with what that says of the part.
 pub data Found (part : List ℕ) : Record → Type 0 where
   nothing : length part ≡ 0 → Found part Missing
   unknown : 0 < length part → record_length (get_or part 0 0) ≡ 0 → Found part Unknown
-  cut : 0 < length part → length part < record_length (get_or part 0 0) → Found part (Cut (get_or part 0 0))
+  cut : 0 < length part → length part < record_length (get_or part 0 0) → Found part (Cut (kind_of (get_or part 0 0)))
   board : kind_on part ≡ board_kind → board_length ≤ length part → Found part (Board (cores_on part) (tick_on part))
   row : is_row_kind (kind_on part) ≡ true → size_on part ≤ length part → Found part (Row (row_fields part))
   end : kind_on part ≡ end_kind → end_length ≤ length part → Found part (End (count_on part))

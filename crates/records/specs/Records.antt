@@ -1,7 +1,10 @@
 -- The records of a sheet: a kind byte, then a body whose length the kind fixes.
-use Rattle.std.specs.Prelude.{ℕ, suc, ◌≡◌, Bool, true, false, cond, List, [], ◌∷◌, eqb, ltb, length, get_or}
+use Rattle.std.specs.Prelude.{ℕ, suc, ◌≡◌, Bool, true, false, cond, List, [], ◌∷◌, eqb, ltb, length, get_or, Result, MatchResult}
 use Rattle.quantities.specs.declared.Micros.{Micros}
 use Rattle.records.specs.Bytes.{field}
+use Rattle.records.specs.declared.Kind.{Kind}
+use Rattle.records.specs.declared.Kind.TheVariants as kinds
+use Rattle.records.specs.declared.UnknownKind.{UnknownKind}
 use Rattle.records.specs.declared.RowFields.{RowFields}
 use Rattle.records.specs.declared.Record.{Record}
 use Rattle.records.specs.declared.Record.TheVariants.{Missing, Unknown, Cut, Board, Row, End}
@@ -33,6 +36,21 @@ longest_record = row_length
 unfoldable pub record_length : ℕ → ℕ
 record_length kind =
     cond (eqb kind board_kind) board_length (cond (eqb kind row_kind) row_length (cond (eqb kind end_kind) end_length 0))
+
+-- the byte that stands for a kind
+abbrev pub kind_number : Kind → ℕ
+kind_number kinds.Board = board_kind
+kind_number kinds.Row = row_kind
+kind_number kinds.End = end_kind
+
+-- the kind that a byte stands for, where a record has it
+unfoldable pub kind_of : ℕ → Kind
+kind_of kind = cond (eqb kind board_kind) kinds.Board (cond (eqb kind row_kind) kinds.Row kinds.End)
+
+-- A byte stands for this kind, or for none that a record has.
+abbrev pub StandsFor : ℕ → Result Kind UnknownKind → Type 0
+StandsFor byte answer =
+    MatchResult answer (λ kind. kind_number kind ≡ byte) (λ unknown. (unknown.0 ≡ byte) × (record_length byte ≡ 0))
 
 -- whether a kind is that of a row record
 unfoldable pub is_row_kind : ℕ → Bool
@@ -90,7 +108,7 @@ unfoldable pub record_on : List ℕ → Record
 record_on [] = Missing
 record_on (kind ∷ body) =
     cond (eqb (record_length kind) 0) Unknown
-    (cond (ltb (suc (length body)) (record_length kind)) (Cut kind) (whole_record kind (kind ∷ body)))
+    (cond (ltb (suc (length body)) (record_length kind)) (Cut (kind_of kind)) (whole_record kind (kind ∷ body)))
 
 -- whether a record is the end record
 unfoldable pub is_end : Record → Bool

@@ -1,11 +1,61 @@
 //! The records of an order sheet, a kind byte and then a body: the only place that knows a record's layout.
 #![tactic(auto)]
 
-ghost use Rattle.std.specs.Prelude.{◌≡◌, ◌+◌, ◌≤◌, ◌<◌, length};
+ghost use Rattle.std.specs.Prelude.{◌≡◌, ◌+◌, ◌≤◌, length};
 ghost use Rattle.records.specs.Bytes.{field};
-ghost use Rattle.records.specs.Records.{record_length, row_length, row_fields, blank_fields, record_on, size_on, is_end};
+ghost use Rattle.records.specs.Records.{kind_number, StandsFor, record_length, row_length};
+ghost use Rattle.records.specs.Records.{row_fields, blank_fields, record_on, size_on, is_end};
 
 use quantities::Micros;
+
+// The kinds of record.
+#[derive(Clone, Copy, Debug, PartialEq, Eq, PartialOrd, Ord, Hash)]
+pub enum Kind {
+    Board,
+    Row,
+    End,
+}
+
+// A byte that stands for no kind.
+#[derive(Clone, Copy, Debug, PartialEq, Eq, PartialOrd, Ord, Hash)]
+pub struct UnknownKind(pub u8);
+
+impl TryFrom<u8> for Kind {
+    type Error = UnknownKind;
+
+    ghost try_from_gives = { StandsFor };
+
+    #[tactic(auto, unfolding(crate::specs::Records::record_length))]
+    fn try_from(byte: u8) -> Result<Kind, UnknownKind> {
+        match byte {
+            1 => Ok(Kind::Board),
+            2 => Ok(Kind::Row),
+            3 => Ok(Kind::End),
+            _ => Err(UnknownKind(byte)),
+        }
+    }
+}
+
+// The lengths of the records, kind byte included. What stands after an end record on a sheet is too much.
+const BOARD_LENGTH: usize = 4;
+
+const ROW_LENGTH: usize = 17;
+
+pub const END_LENGTH: usize = 2;
+
+impl Kind {
+    // The length of a record of this kind.
+    #[tactic(auto, unfolding(crate::specs::Records::record_length))]
+    fn length(self) -> usize
+        ensures { result ≡ record_length (kind_number self) }
+    {
+        match self {
+            Kind::Board => BOARD_LENGTH,
+            Kind::Row => ROW_LENGTH,
+            Kind::End => END_LENGTH,
+        }
+    }
+}
 
 // The fields of a row record, as they stand on the sheet.
 #[derive(Clone, Copy)]
@@ -38,143 +88,78 @@ impl RowFields {
 pub enum Record {
     Missing,
     Unknown,
-    Cut(u8),
+    Cut(Kind),
     Board(u32, Micros),
     Row(RowFields),
     End(usize),
 }
 
-pub const BOARD_KIND: u8 = 1;
-
-pub const ROW_KIND: u8 = 2;
-
-pub const END_KIND: u8 = 3;
-
-// The lengths of the records, kind byte included. What stands after an end record on a sheet is too much.
-const BOARD_LENGTH: usize = 4;
-
-const ROW_LENGTH: usize = 17;
-
-pub const END_LENGTH: usize = 2;
-
-// The length of a record by its kind; 0 for a kind that no record has.
-fn record_length(kind: u8) -> usize
-    ensures { result ≡ record_length kind }
-{
-    if kind == BOARD_KIND {
-        return BOARD_LENGTH;
-    }
-    if kind == ROW_KIND {
-        return ROW_LENGTH;
-    }
-    if kind == END_KIND {
-        return END_LENGTH;
-    }
-    0
-}
-
-fn wide(byte: u8) -> u32
-    ensures { (result ≡ byte) × (result < 256) }
-{
-    byte as u32
-}
-
-fn counted(byte: u8) -> usize
-    ensures { result ≡ byte }
-{
-    byte as usize
-}
-
-fn micros(number: u32) -> Micros
-    ensures { result ≡ record { 0 = number } }
-{
-    Micros(number as u64)
-}
-
 // The number in the two bytes from a place on.
-fn two_bytes(part: &[u8], at: usize) -> u32
+#[tactic(auto, using(crate::proofs::Bytes::two_be))]
+fn two_bytes(part: &[u8], at: usize) -> u16
     requires { at + 2 ≤ length part.now }
-    ensures { (result ≡ field at 2 part.now) × (result < 65536) }
+    ensures { result ≡ field at 2 part.now }
 {
-    let high = wide(part[at]);
-    let low = wide(part[at + 1]);
-    high * 256 + low
+    u16::from_be_bytes([part[at], part[at + 1]])
 }
 
 // The number in the four bytes from a place on.
+#[tactic(auto, using(crate::proofs::Bytes::four_be))]
 fn four_bytes(part: &[u8], at: usize) -> u32
     requires { at + 4 ≤ length part.now }
     ensures { result ≡ field at 4 part.now }
 {
-    let high = two_bytes(part, at);
-    let low = two_bytes(part, at + 2);
-    high * 65536 + low
+    u32::from_be_bytes([part[at], part[at + 1], part[at + 2], part[at + 3]])
 }
 
 // The fields of a row record that is whole.
+#[tactic(auto, unfolding(crate::specs::Records::row_fields))]
 fn row_fields(part: &[u8]) -> RowFields
     requires { row_length ≤ length part.now }
     ensures { result ≡ row_fields part.now }
 {
-    let label = two_bytes(part, 1);
-    let priority = two_bytes(part, 3);
-    let c = micros(four_bytes(part, 5));
-    let d = micros(four_bytes(part, 9));
-    let t = micros(four_bytes(part, 13));
     RowFields {
-        label: label,
-        priority: priority,
-        c: c,
-        d: d,
-        t: t,
+        label: u32::from(two_bytes(part, 1)),
+        priority: u32::from(two_bytes(part, 3)),
+        c: Micros(u64::from(four_bytes(part, 5))),
+        d: Micros(u64::from(four_bytes(part, 9))),
+        t: Micros(u64::from(four_bytes(part, 13))),
     }
 }
 
 // What stands on a part of a sheet that begins where a record should, at its kind byte.
+#[tactic(auto, using(crate::proofs::Records::on_none, crate::proofs::Records::on_no_kind, crate::proofs::Records::on_short, crate::proofs::Records::long_board, crate::proofs::Records::long_row, crate::proofs::Records::long_end), unfolding(crate::specs::Records::record_length))]
 pub fn record_on(part: &[u8]) -> Record
     ensures { result ≡ record_on part.now }
 {
-    if part.len() == 0 {
+    let Some(&byte) = part.first() else {
         return Record::Missing;
+    };
+    match Kind::try_from(byte) {
+        Err(_) => Record::Unknown,
+        Ok(kind) if part.len() < kind.length() => Record::Cut(kind),
+        Ok(Kind::Board) => Record::Board(u32::from(part[1]), Micros(u64::from(two_bytes(part, 2)))),
+        Ok(Kind::Row) => Record::Row(row_fields(part)),
+        Ok(Kind::End) => Record::End(usize::from(part[1])),
     }
-    let kind = part[0];
-    let whole = record_length(kind);
-    if whole == 0 {
-        return Record::Unknown;
-    }
-    if part.len() < whole {
-        return Record::Cut(kind);
-    }
-    if kind == BOARD_KIND {
-        let cores = wide(part[1]);
-        let tick = micros(two_bytes(part, 2));
-        return Record::Board(cores, tick);
-    }
-    if kind == ROW_KIND {
-        let fields = row_fields(part);
-        return Record::Row(fields);
-    }
-    let count = counted(part[1]);
-    Record::End(count)
 }
 
 // How many bytes the record on a part takes: the length that its kind fixes, also where it is cut short; 0 where there
 // is no byte, or a kind that no record has.
+#[tactic(auto, using(crate::proofs::Records::size_none))]
 pub fn size_on(part: &[u8]) -> usize
     ensures { result ≡ size_on part.now }
 {
-    if part.len() == 0 {
+    let Some(&byte) = part.first() else {
         return 0;
-    }
-    record_length(part[0])
+    };
+    Kind::try_from(byte).map_or(0, Kind::length)
 }
 
 // Whether a record is the end record.
+#[tactic(auto, unfolding(crate::specs::Records::is_end))]
 pub fn is_end(found: Record) -> bool
     ensures { result ≡ is_end found }
 {
-    if let Record::End(_) = found {
-        return true;
-    }
-    false
+    matches!(found, Record::End(_))
 }

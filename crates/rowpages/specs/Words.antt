@@ -9,7 +9,6 @@ use Rattle.quantities.specs.Paper.{Paper, paper, checked_paper}
 use Rattle.windows.specs.Answer.{answer_paper}
 use Rattle.windows.specs.declared.Answer.TheVariants.{Shown}
 use Rattle.sheet.specs.Reader.{verdict_paper}
-use Rattle.sheet.specs.declared.Verdict.TheVariants.{Sound}
 
 -- The first check of a list that fails tells this number and place: a check that does so stands at an index, it
 -- fails, and none before it does.
@@ -31,7 +30,7 @@ pub record FirstMeans : Type 0 where
 -- Where nothing is refused, 0 at 0 stands for the number and the place: of a list, a sheet, a table.
 pub record NothingRefused : Type 0 where
   pub of_a_list : answer_paper Shown ≡ paper 0 0
-  pub of_a_sheet : verdict_paper Sound ≡ paper 0 0
+  pub of_a_sheet : verdict_paper (Ok tt) ≡ paper 0 0
   pub of_a_table : checked_paper (Ok tt) ≡ paper 0 0
 
 -- Each element of a list has a property: the one at each index does.

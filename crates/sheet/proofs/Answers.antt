@@ -16,8 +16,8 @@ use Rattle.sheet.specs.Whole.{joined, entries_on, PriorityInRange, WholeSheet, b
 use Rattle.records.specs.declared.RowFields.{RowFields}
 use Rattle.entries.specs.declared.Sheet.{Sheet}
 use Rattle.sheet.specs.declared.Reading.{Reading}
-use Rattle.sheet.specs.declared.Verdict.{Verdict}
-use Rattle.sheet.specs.declared.Verdict.TheVariants.{Sound, Refused}
+use Rattle.sheet.specs.Checks.{Verdict, fault}
+use Rattle.std.specs.Prelude.{Ok, Err}
 use Rattle.sheet.specs.declared.Outcome.{Outcome}
 use Rattle.entries.proofs.Entries.{used_below}
 use Rattle.sheet.proofs.Checks.{sound_not_refused}
@@ -44,7 +44,7 @@ module _ (sheet : List ℕ) (m : MadeOf sheet) where
   pub answer_made : read_of sheet ≡ whole (sheet_of (cores_on m.board) (tick_on m.board) (arranged m.board m.rows m.end m.in_order))
   answer_made = ap read_of m.made ∙ whole_read m.board m.rows m.end m.in_order
 
-  pub made_sound : (read_of sheet).verdict ≡ Sound
+  pub made_sound : (read_of sheet).verdict ≡ Ok tt
   unfolding whole
   made_sound = ap (λ (o : Outcome). o.verdict) answer_made
 
@@ -64,7 +64,7 @@ module _ (sheet : List ℕ) (m : MadeOf sheet) where
       (arith, ap length m.made, length-append m.board (joined m.rows ++ m.end), length-append (joined m.rows) m.end, (length_joined m.rows w.then_rows).most, w.few_rows, board_long m.board w.board_first, end_long m.end w.end_last)
 
 -- a sheet without fault is at most 550 bytes
-pub sound_short : (sheet : List ℕ) → (read_of sheet).verdict ≡ Sound → length sheet ≤ 550
+pub sound_short : (sheet : List ℕ) → (read_of sheet).verdict ≡ Ok tt → length sheet ≤ 550
 sound_short sheet s = made_short sheet (sound_made sheet s)
 
 -- Rows in another order.
@@ -107,18 +107,18 @@ module _ (board : List ℕ) (rows others : List (List ℕ)) (end : List ℕ) (p 
       whole_read board others end v ∙ ap (λ (es : List RowFields). whole (sheet_of (cores_on board) (tick_on board) es)) same ∙ sym (whole_read board rows end w)
 
 -- A refused sheet yields no table.
-refused_is : (o : Outcome) (a b number place : ℕ) → o ≡ refused a b → o.verdict ≡ Refused number place → o ≡ refused number place
+refused_is : (o : Outcome) (a b number place : ℕ) → o ≡ refused a b → o.verdict ≡ Err (fault number place) → o ≡ refused number place
 unfolding refused
 refused_is o a b number place e v =
     e ∙ ap (λ (w : Verdict). record { verdict = w; sheet = no_sheet }) (sym (ap (λ (x : Outcome). x.verdict) e) ∙ v)
 
-whole_not_refused : (o : Outcome) (s : Sheet) (number place : ℕ) → o ≡ whole s → o.verdict ≡ Refused number place → ⊥
+whole_not_refused : (o : Outcome) (s : Sheet) (number place : ℕ) → o ≡ whole s → o.verdict ≡ Err (fault number place) → ⊥
 unfolding whole
 whole_not_refused o s number place e v =
     sound_not_refused number place (sym v ∙ ap (λ (x : Outcome). x.verdict) e)
 
 from_refused : (limit : ℕ) (reading : Reading) (at : ℕ) (part : List ℕ) (number place : ℕ)
-    → (read_from limit reading at part).verdict ≡ Refused number place
+    → (read_from limit reading at part).verdict ≡ Err (fault number place)
     → read_from limit reading at part ≡ refused number place
 from_refused zero reading at part number place e =
     refused_is (read_from 0 reading at part) 11 at number place (read_none reading at part) e
@@ -133,9 +133,9 @@ from_refused (suc limit) reading at part number place e =
 
     Later : Type 0
     Later =
-        (behind limit reading at part).verdict ≡ Refused number place → behind limit reading at part ≡ refused number place
+        (behind limit reading at part).verdict ≡ Err (fault number place) → behind limit reading at part ≡ refused number place
 
-    by_end : Later → (b : Bool) → is_end one ≡ b → verdict_at at reading part ≡ Sound → now ≡ refused number place
+    by_end : Later → (b : Bool) → is_end one ≡ b → verdict_at at reading part ≡ Ok tt → now ≡ refused number place
     by_end later true last s =
         absurd (whole_not_refused now reading.sheet number place (read_whole reading at part limit s last) e)
     by_end later false last s =
@@ -143,11 +143,11 @@ from_refused (suc limit) reading at part number place e =
         on ∙ later (ap (λ (x : Outcome). x.verdict) (sym on) ∙ e)
 
     by_verdict : Later → (v : Verdict) → verdict_at at reading part ≡ v → now ≡ refused number place
-    by_verdict later Sound s = by_end later (is_end one) refl s
-    by_verdict later (Refused a b) s = refused_is now a b number place (read_refused reading at part limit a b s) e
+    by_verdict later (Ok _) s = by_end later (is_end one) refl s
+    by_verdict later (Err one) s = refused_is now one.number one.place number place (read_refused reading at part limit one.number one.place s) e
 
 pub refused_no_table : (sheet : List ℕ) (number place : ℕ)
-    → (read_of sheet).verdict ≡ Refused number place → read_of sheet ≡ refused number place
+    → (read_of sheet).verdict ≡ Err (fault number place) → read_of sheet ≡ refused number place
 refused_no_table sheet number place e =
     let read = read_of_lem sheet in
     read ∙ from_refused (suc (length sheet)) new_reading 0 sheet number place (ap (λ (o : Outcome). o.verdict) (sym read) ∙ e)

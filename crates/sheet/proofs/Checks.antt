@@ -1,7 +1,7 @@
 -- Laws of the checks of a record: which one decides.
 use Prim.Native.Nat.{ℕ, ◌+◌, ◌≤◌, ◌<◌}
 use native.Mathlib.Omega.{arith}
-use mathlib.Core.Path.{◌≡◌, refl, sym, ◌∙◌}
+use mathlib.Core.Path.{◌≡◌, refl, sym, ap, ◌∙◌}
 use mathlib.Core.Bool.{Bool, true, false, not, cond, ◌&&◌}
 use mathlib.Core.List.{List, [], ◌∷◌}
 use lib.Dec.{eqb, ltb}
@@ -12,7 +12,8 @@ use Rattle.laws.specs.Checks.{Check, first_failing}
 use Rattle.quantities.specs.Paper.{Paper}
 use Rattle.quantities.specs.Checks.{check}
 use Rattle.quantities.specs.declared.Micros.{Micros}
-use Rattle.records.specs.Records.{board_kind, row_kind, end_kind, end_length, is_end}
+use Rattle.records.specs.Records.{board_kind, row_kind, end_kind, end_length, is_end, kind_number}
+use Rattle.records.specs.declared.Kind.{Kind}
 use Rattle.records.specs.declared.RowFields.{RowFields}
 use Rattle.records.specs.declared.Record.{Record}
 use Rattle.records.specs.declared.Record.TheVariants.{Missing, Unknown, Cut, Board, Row, End}
@@ -20,16 +21,28 @@ use Rattle.entries.specs.Entries.{entries_of, used}
 use Rattle.sheet.specs.Checks.{top_priority, misplaced, board_checks, row_record_checks, end_checks, record_checks, own_checks, verdict_of}
 use Rattle.entries.specs.declared.Sheet.{Sheet}
 use Rattle.sheet.specs.declared.Reading.{Reading}
-use Rattle.sheet.specs.declared.Verdict.{Verdict}
-use Rattle.sheet.specs.declared.Verdict.TheVariants.{Sound, Refused}
+use Rattle.sheet.specs.declared.SheetFault.{SheetFault}
+use Rattle.sheet.specs.Checks.{Verdict, fault}
+use Rattle.std.specs.Prelude.{Ok, Err}
 
 -- a verdict is not both
-pub sound_not_refused : (number place : ℕ) → Refused number place ≡ Sound → ⊥
+pub sound_not_refused : (number place : ℕ) → ◌≡◌ {A = Verdict} (Err (fault number place)) (Ok tt) → ⊥
 sound_not_refused number place e = not_one cc
+
+pub not_refused : (verdict : Verdict) → ((why : SheetFault) → verdict ≡ Err why → ⊥) → verdict ≡ Ok tt
+not_refused (Ok _) other = refl
+not_refused (Err why) other = absurd (other why refl)
+
+-- A refusal's parts.
+pub same_refusal : (a b number place : ℕ) → ◌≡◌ {A = Verdict} (Err (fault a b)) (Err (fault number place))
+    → (a ≡ number) × (b ≡ place)
+same_refusal a b number place e =
+    let same : fault a b ≡ fault number place = cc in
+    (ap (λ (one : SheetFault). one.number) same, ap (λ (one : SheetFault). one.place) same)
 
 -- The first check decides where it fails, else those after it do.
 module _ (number place : ℕ) (fails : Bool) (rest : List (Check Paper)) where
-  pub verdict_fails : fails ≡ true → verdict_of (check number place fails ∷ rest) ≡ Refused number place
+  pub verdict_fails : fails ≡ true → verdict_of (check number place fails ∷ rest) ≡ Err (fault number place)
   unfolding verdict_of first_failing
   verdict_fails e = rw e
 
@@ -37,40 +50,58 @@ module _ (number place : ℕ) (fails : Bool) (rest : List (Check Paper)) where
   unfolding verdict_of first_failing
   verdict_passes e = rw e
 
+-- A check by itself, and with others behind it.
+module _ (one : Check Paper) (rest : List (Check Paper)) where
+  pub verdict_stops : (why : SheetFault) → verdict_of (one ∷ []) ≡ Err why → verdict_of (one ∷ rest) ≡ Err why
+  unfolding verdict_of first_failing
+  verdict_stops why e = go one.fails refl
+    where
+      go : (b : Bool) → one.fails ≡ b → verdict_of (one ∷ rest) ≡ Err why
+      go true f = rw f (rw f at e)
+      go false f = absurd (not_one cc)
+
+  pub verdict_goes_on : verdict_of (one ∷ []) ≡ Ok tt → verdict_of (one ∷ rest) ≡ verdict_of rest
+  unfolding verdict_of first_failing
+  verdict_goes_on e = go one.fails refl
+    where
+      go : (b : Bool) → one.fails ≡ b → verdict_of (one ∷ rest) ≡ verdict_of rest
+      go true f = absurd (not_one cc)
+      go false f = rw f refl
+
 -- The verdict on what was found at a place.
 module _ (at left : ℕ) (reading : Reading) where
-  pub verdict_missing : verdict_of (record_checks at left reading Missing) ≡ Refused 11 at
+  pub verdict_missing : verdict_of (record_checks at left reading Missing) ≡ Err (fault 11 at)
   unfolding record_checks
   verdict_missing = verdict_fails 11 at true [] refl
 
-  pub verdict_unknown : verdict_of (record_checks at left reading Unknown) ≡ Refused 12 at
+  pub verdict_unknown : verdict_of (record_checks at left reading Unknown) ≡ Err (fault 12 at)
   unfolding record_checks
   verdict_unknown = verdict_fails 12 at true [] refl
 
-  module _ (kind : ℕ) where
-    pub cut_misplaced : misplaced reading.begun kind ≡ true → verdict_of (record_checks at left reading (Cut kind)) ≡ Refused 13 at
+  module _ (kind : Kind) where
+    pub cut_misplaced : misplaced reading.begun (kind_number kind) ≡ true → verdict_of (record_checks at left reading (Cut kind)) ≡ Err (fault 13 at)
     unfolding record_checks
     cut_misplaced e = verdict_fails 13 at _ (check 11 at true ∷ []) e
 
-    pub cut_placed : misplaced reading.begun kind ≡ false → verdict_of (record_checks at left reading (Cut kind)) ≡ Refused 11 at
+    pub cut_placed : misplaced reading.begun (kind_number kind) ≡ false → verdict_of (record_checks at left reading (Cut kind)) ≡ Err (fault 11 at)
     unfolding record_checks
     cut_placed e = verdict_passes 13 at _ (check 11 at true ∷ []) e ∙ verdict_fails 11 at true [] refl
 
-    pub cut_not_sound : verdict_of (record_checks at left reading (Cut kind)) ≡ Sound → ⊥
-    cut_not_sound s = go (misplaced reading.begun kind) refl
+    pub cut_not_sound : verdict_of (record_checks at left reading (Cut kind)) ≡ Ok tt → ⊥
+    cut_not_sound s = go (misplaced reading.begun (kind_number kind)) refl
       where
-        go : (b : Bool) → misplaced reading.begun kind ≡ b → ⊥
+        go : (b : Bool) → misplaced reading.begun (kind_number kind) ≡ b → ⊥
         go true e = sound_not_refused 13 at (sym (cut_misplaced e) ∙ s)
         go false e = sound_not_refused 11 at (sym (cut_placed e) ∙ s)
 
-  pub missing_not_sound : verdict_of (record_checks at left reading Missing) ≡ Sound → ⊥
+  pub missing_not_sound : verdict_of (record_checks at left reading Missing) ≡ Ok tt → ⊥
   missing_not_sound s = sound_not_refused 11 at (sym verdict_missing ∙ s)
 
-  pub unknown_not_sound : verdict_of (record_checks at left reading Unknown) ≡ Sound → ⊥
+  pub unknown_not_sound : verdict_of (record_checks at left reading Unknown) ≡ Ok tt → ⊥
   unknown_not_sound s = sound_not_refused 12 at (sym verdict_unknown ∙ s)
 
   module _ (cores : ℕ) (tick : Micros) where
-    pub board_misplaced : misplaced reading.begun board_kind ≡ true → verdict_of (record_checks at left reading (Board cores tick)) ≡ Refused 13 at
+    pub board_misplaced : misplaced reading.begun board_kind ≡ true → verdict_of (record_checks at left reading (Board cores tick)) ≡ Err (fault 13 at)
     unfolding record_checks
     board_misplaced e = verdict_fails 13 at _ (board_checks at tick) e
 
@@ -80,7 +111,7 @@ module _ (at left : ℕ) (reading : Reading) where
     board_placed e = verdict_passes 13 at _ (board_checks at tick) e
 
   module _ (fields : RowFields) where
-    pub row_misplaced : misplaced reading.begun row_kind ≡ true → verdict_of (record_checks at left reading (Row fields)) ≡ Refused 13 at
+    pub row_misplaced : misplaced reading.begun row_kind ≡ true → verdict_of (record_checks at left reading (Row fields)) ≡ Err (fault 13 at)
     unfolding record_checks
     row_misplaced e = verdict_fails 13 at _ (row_record_checks at reading.sheet fields.priority) e
 
@@ -90,7 +121,7 @@ module _ (at left : ℕ) (reading : Reading) where
     row_placed e = verdict_passes 13 at _ (row_record_checks at reading.sheet fields.priority) e
 
   module _ (count : ℕ) where
-    pub end_misplaced : misplaced reading.begun end_kind ≡ true → verdict_of (record_checks at left reading (End count)) ≡ Refused 13 at
+    pub end_misplaced : misplaced reading.begun end_kind ≡ true → verdict_of (record_checks at left reading (End count)) ≡ Err (fault 13 at)
     unfolding record_checks
     end_misplaced e = verdict_fails 13 at _ (end_checks at left reading.sheet count) e
 
@@ -100,17 +131,17 @@ module _ (at left : ℕ) (reading : Reading) where
     end_placed e = verdict_passes 13 at _ (end_checks at left reading.sheet count) e
 
 -- What a sound verdict says of the checks, and the checks of a sound verdict.
-pub sound_first : (number place : ℕ) (fails : Bool) (rest : List (Check Paper)) → verdict_of (check number place fails ∷ rest) ≡ Sound
-    → (fails ≡ false) × (verdict_of rest ≡ Sound)
+pub sound_first : (number place : ℕ) (fails : Bool) (rest : List (Check Paper)) → verdict_of (check number place fails ∷ rest) ≡ Ok tt
+    → (fails ≡ false) × (verdict_of rest ≡ Ok tt)
 sound_first number place fails rest s = go fails refl
   where
-    go : (b : Bool) → fails ≡ b → (fails ≡ false) × (verdict_of rest ≡ Sound)
+    go : (b : Bool) → fails ≡ b → (fails ≡ false) × (verdict_of rest ≡ Ok tt)
     go true e = absurd (sound_not_refused number place (sym (verdict_fails number place fails rest e) ∙ s))
     go false e = (e, sym (verdict_passes number place fails rest e) ∙ s)
 
 -- a 33rd row record is refused by 14, whatever stands in its box
 pub row_beyond : (at : ℕ) (sheet : Sheet) (priority : ℕ) → row_capacity ≤ sheet.count
-    → verdict_of (row_record_checks at sheet priority) ≡ Refused 14 at
+    → verdict_of (row_record_checks at sheet priority) ≡ Err (fault 14 at)
 unfolding row_record_checks
 row_beyond at sheet priority full = verdict_fails 14 at _ _ (le-leb row_capacity sheet.count full)
 
@@ -121,12 +152,12 @@ pub record SoundRow (sheet : Sheet) (priority : ℕ) : Type 0 where
   pub in_range : priority ≤ top_priority
   pub unused : used priority (entries_of sheet) ≡ false
 
-pub row_sound : (at : ℕ) (sheet : Sheet) (priority : ℕ) → SoundRow sheet priority → verdict_of (row_record_checks at sheet priority) ≡ Sound
+pub row_sound : (at : ℕ) (sheet : Sheet) (priority : ℕ) → SoundRow sheet priority → verdict_of (row_record_checks at sheet priority) ≡ Ok tt
 unfolding row_record_checks verdict_of first_failing
 row_sound at sheet priority r =
     simp (lt-leb row_capacity sheet.count r.room, ne_eqb priority 0 (omega (arith, r.filled)), le-ltb top_priority priority r.in_range, r.unused)
 
-pub sound_row : (at : ℕ) (sheet : Sheet) (priority : ℕ) → verdict_of (row_record_checks at sheet priority) ≡ Sound → SoundRow sheet priority
+pub sound_row : (at : ℕ) (sheet : Sheet) (priority : ℕ) → verdict_of (row_record_checks at sheet priority) ≡ Ok tt → SoundRow sheet priority
 unfolding row_record_checks
 sound_row at sheet priority s =
     let a = sound_first 14 at _ _ s in
@@ -146,12 +177,12 @@ pub record SoundEnd (left : ℕ) (sheet : Sheet) (count : ℕ) : Type 0 where
   pub counted : count ≡ sheet.count
   pub last : left ≤ end_length
 
-pub end_sound : (at left : ℕ) (sheet : Sheet) (count : ℕ) → SoundEnd left sheet count → verdict_of (end_checks at left sheet count) ≡ Sound
+pub end_sound : (at left : ℕ) (sheet : Sheet) (count : ℕ) → SoundEnd left sheet count → verdict_of (end_checks at left sheet count) ≡ Ok tt
 unfolding end_checks verdict_of first_failing
 end_sound at left sheet count e =
     simp (eq-eqb count sheet.count e.counted, le-ltb end_length left e.last)
 
-pub sound_end : (at left : ℕ) (sheet : Sheet) (count : ℕ) → verdict_of (end_checks at left sheet count) ≡ Sound → SoundEnd left sheet count
+pub sound_end : (at left : ℕ) (sheet : Sheet) (count : ℕ) → verdict_of (end_checks at left sheet count) ≡ Ok tt → SoundEnd left sheet count
 unfolding end_checks
 sound_end at left sheet count s =
     let a = sound_first 17 at _ _ s in
@@ -162,11 +193,11 @@ sound_end at left sheet count s =
     }
 
 -- a board record is sound exactly where its tick length is not 0
-pub board_sound : (at : ℕ) (tick : Micros) → 0 < tick.0 → verdict_of (board_checks at tick) ≡ Sound
+pub board_sound : (at : ℕ) (tick : Micros) → 0 < tick.0 → verdict_of (board_checks at tick) ≡ Ok tt
 unfolding board_checks verdict_of first_failing
 board_sound at tick h = simp (ne_eqb tick.0 0 (omega arith))
 
-pub sound_board : (at : ℕ) (tick : Micros) → verdict_of (board_checks at tick) ≡ Sound → 0 < tick.0
+pub sound_board : (at : ℕ) (tick : Micros) → verdict_of (board_checks at tick) ≡ Ok tt → 0 < tick.0
 unfolding board_checks
 sound_board at tick s =
     let a = sound_first 19 at _ _ s in
@@ -175,13 +206,13 @@ sound_board at tick s =
 
 -- A verdict by itself, and then whether more bytes stand behind the end record (18).
 unfoldable pub closed_verdict : Verdict → ℕ → Bool → Verdict
-closed_verdict (Refused number place) end more = Refused number place
-closed_verdict Sound end more = cond more (Refused 18 end) Sound
+closed_verdict (Err one) end more = Err (fault one.number one.place)
+closed_verdict (Ok _) end more = cond more (Err (fault 18 end)) (Ok tt)
 
 not_closed : (verdict : Verdict) (end : ℕ) → verdict ≡ closed_verdict verdict end false
 unfolding closed_verdict
-not_closed Sound end = refl
-not_closed (Refused number place) end = refl
+not_closed (Ok _) end = refl
+not_closed (Err one) end = refl
 
 -- 18 comes after all the others, and concerns the end record alone
 pub checks_closed : (at left : ℕ) (reading : Reading) (one : Record)

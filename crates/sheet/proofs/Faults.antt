@@ -18,29 +18,25 @@ use Rattle.sheet.specs.Checks.{record_checks, verdict_of}
 use Rattle.sheet.specs.Reader.{new_reading, refused, whole, read_of}
 use Rattle.sheet.specs.Faults.{record_at, checks_at, ReadTo, start, next, FirstFault, FaultAt}
 use Rattle.sheet.specs.declared.Reading.{Reading}
-use Rattle.sheet.specs.declared.Verdict.{Verdict}
-use Rattle.sheet.specs.declared.Verdict.TheVariants.{Sound, Refused}
+use Rattle.sheet.specs.Checks.{Verdict, fault}
+use Rattle.std.specs.Prelude.{Ok, Err}
 use Rattle.sheet.specs.declared.Outcome.{Outcome}
-use Rattle.sheet.proofs.Checks.{sound_not_refused}
+use Rattle.sheet.proofs.Checks.{sound_not_refused, same_refusal}
 use Rattle.sheet.proofs.Reader.{Reads, reads_new, turn_refused, turn_whole, turn_within, turn_on}
 
 -- The verdict of checks, by the first that fails.
-pub verdict_none : (checks : List (Check Paper)) → Each (λ one. one.fails ≡ false) checks → verdict_of checks ≡ Sound
+pub verdict_none : (checks : List (Check Paper)) → Each (λ one. one.fails ≡ false) checks → verdict_of checks ≡ Ok tt
 unfolding verdict_of
 verdict_none checks passed = rw (none_found checks passed, verdict_of)
 
 pub verdict_first : (checks : List (Check Paper)) (one : Paper) → FirstFailing checks one
-    → verdict_of checks ≡ Refused one.number one.place
+    → verdict_of checks ≡ Err (fault one.number one.place)
 unfolding verdict_of
 verdict_first checks one first = rw (first_found checks one first, verdict_of)
 
--- A refusal's parts.
-pub same_refusal : (a b number place : ℕ) → Refused a b ≡ Refused number place → (a ≡ number) × (b ≡ place)
-same_refusal a b number place e = (cc, cc)
-
 -- What a verdict says of the checks: none fails, or the first that does has its number and its place.
 module _ (checks : List (Check Paper)) where
-  sound_passed : verdict_of checks ≡ Sound → Each (λ one. one.fails ≡ false) checks
+  sound_passed : verdict_of checks ≡ Ok tt → Each (λ one. one.fails ≡ false) checks
   unfolding verdict_of
   sound_passed s = go (first_failing checks) refl
     where
@@ -49,7 +45,7 @@ module _ (checks : List (Check Paper)) where
       go (some one) q = absurd (sound_not_refused one.number one.place (rw (q, verdict_of) at s))
 
   -- the first check that fails tells its number and its place
-  refused_failing : (number place : ℕ) → verdict_of checks ≡ Refused number place
+  refused_failing : (number place : ℕ) → verdict_of checks ≡ Err (fault number place)
       → FirstFailing checks (paper number place)
   unfolding verdict_of
   refused_failing number place e = go (first_failing checks) refl
@@ -57,8 +53,7 @@ module _ (checks : List (Check Paper)) where
       go : (found : Option Paper) → first_failing checks ≡ found → FirstFailing checks (paper number place)
       go none q = absurd (sound_not_refused number place (sym (rw (q, verdict_of) at e)))
       go (some one) q =
-          let given : Refused one.number one.place ≡ Refused number place = rw (q, verdict_of) at e in
-          let (numbered, placed) = same_refusal one.number one.place number place given in
+          let (numbered, placed) = same_refusal one.number one.place number place (rw (q, verdict_of) at e) in
           let same : one ≡ paper number place = ap (λ (n : ℕ). paper n one.place) numbered ∙ ap (paper number) placed in
           first_failing_lem checks (paper number place) (q ∙ ap some same)
 
@@ -96,10 +91,10 @@ module _ (sheet : List ℕ) where
       ∙ ap (refused 11) (missing_at_end reading at before e)
 
   -- A refused sheet: the records are read in turn, until one has a check that fails.
-  module _ (number place : ℕ) (e : (read_of sheet).verdict ≡ Refused number place) where
+  module _ (number place : ℕ) (e : (read_of sheet).verdict ≡ Err (fault number place)) where
     -- the record where the reading stands is the first that fails
     fault_here : (reading : Reading) (at : ℕ) → ReadTo sheet reading at → (a b : ℕ)
-        → verdict_of (checks_at sheet reading at) ≡ Refused a b → FaultAt sheet number place
+        → verdict_of (checks_at sheet reading at) ≡ Err (fault a b) → FaultAt sheet number place
     unfolding refused
     fault_here reading at before a b v =
         let answer = turn_refused sheet reading at (read_to before) a b v in
@@ -110,7 +105,7 @@ module _ (sheet : List ℕ) where
 
     -- no end record is taken
     not_taken : (reading : Reading) (at : ℕ) → ReadTo sheet reading at
-        → verdict_of (checks_at sheet reading at) ≡ Sound → is_end (record_at sheet at) ≡ true → ⊥
+        → verdict_of (checks_at sheet reading at) ≡ Ok tt → is_end (record_at sheet at) ≡ true → ⊥
     unfolding whole
     not_taken reading at before v last =
         let answer = turn_whole sheet reading at (read_to before) v last in
@@ -128,7 +123,7 @@ module _ (sheet : List ℕ) where
             (reading : Reading) (at : ℕ) → ReadTo sheet reading at
             → length sheet < at + limit → FaultAt sheet number place
 
-        by_end : Later → verdict_of (checks_at sheet reading at) ≡ Sound
+        by_end : Later → verdict_of (checks_at sheet reading at) ≡ Ok tt
             → (b : Bool) → is_end (record_at sheet at) ≡ b → FaultAt sheet number place
         by_end later v true last = absurd (not_taken reading at before v last)
         by_end later v false last =
@@ -138,8 +133,8 @@ module _ (sheet : List ℕ) where
 
         by_verdict : Later → (v : Verdict) → verdict_of (checks_at sheet reading at) ≡ v
             → FaultAt sheet number place
-        by_verdict later Sound v = by_end later v (is_end (record_at sheet at)) refl
-        by_verdict later (Refused a b) v = fault_here reading at before a b v
+        by_verdict later (Ok _) v = by_end later v (is_end (record_at sheet at)) refl
+        by_verdict later (Err one) v = fault_here reading at before one.number one.place v
 
     pub refused_first_fault : FaultAt sheet number place
     refused_first_fault = fault_from_lem (suc (length sheet)) new_reading 0 start (omega arith)

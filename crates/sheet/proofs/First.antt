@@ -16,12 +16,12 @@ use Rattle.sheet.specs.Checks.{own_checks, verdict_of}
 use Rattle.sheet.specs.Reader.{after_record, new_reading, refused, whole, unread, ended}
 use Rattle.sheet.specs.Reader.{first_from, first_sheet_of, read_of}
 use Rattle.sheet.specs.declared.Reading.{Reading}
-use Rattle.sheet.specs.declared.Verdict.{Verdict}
-use Rattle.sheet.specs.declared.Verdict.TheVariants.{Sound, Refused}
+use Rattle.sheet.specs.Checks.{Verdict, fault}
+use Rattle.std.specs.Prelude.{Ok, Err}
 use Rattle.sheet.specs.declared.FirstSheet.{FirstSheet}
 use Rattle.sheet.specs.declared.Outcome.{Outcome}
 use Rattle.records.specs.Records.{end_length}
-use Rattle.sheet.proofs.Checks.{sound_not_refused}
+use Rattle.sheet.proofs.Checks.{sound_not_refused, same_refusal}
 use Rattle.sheet.proofs.Reader.{own_verdict, Within, sound_within, first_refused, first_ended, first_on}
 use Rattle.sheet.proofs.Reader.{answer_refused, answer_more, answer_whole}
 
@@ -30,35 +30,33 @@ first_none : (reading : Reading) (at : ℕ) (part : List ℕ) → first_from 0 r
 unfolding first_from
 first_none reading at part = refl
 
-unread_not_sound : (first : FirstSheet) (number place : ℕ) → first ≡ unread number place → first.verdict ≡ Sound → ⊥
+unread_not_sound : (first : FirstSheet) (number place : ℕ) → first ≡ unread number place → first.verdict ≡ Ok tt → ⊥
 unfolding unread
 unread_not_sound first number place is s =
     sound_not_refused number place (sym (ap (λ (f : FirstSheet). f.verdict) is) ∙ s)
 
-sound_is : (first : FirstSheet) → first.verdict ≡ Sound → first ≡ ended first.sheet first.end
+sound_is : (first : FirstSheet) → first.verdict ≡ Ok tt → first ≡ ended first.sheet first.end
 unfolding ended
 sound_is first s = ap (λ (v : Verdict). record { verdict = v; sheet = first.sheet; end = first.end }) s
 
 unread_by : (first : FirstSheet) (a b : ℕ) → first ≡ unread a b → (number place : ℕ)
-    → first.verdict ≡ Refused number place → first ≡ unread number place
+    → first.verdict ≡ Err (fault number place) → first ≡ unread number place
 unfolding unread
 unread_by first a b is number place s =
-    let both : Refused a b ≡ Refused number place = sym (ap (λ (f : FirstSheet). f.verdict) is) ∙ s in
-    let n : a ≡ number = cc in
-    let p : b ≡ place = cc in
+    let (n, p) = same_refusal a b number place (sym (ap (λ (f : FirstSheet). f.verdict) is) ∙ s) in
     is ∙ rw (n, p)
 
 -- where a sheet is read, nothing is wrong with its first record, which takes a byte or more
 module _ (limit : ℕ) (reading : Reading) (at : ℕ) (part : List ℕ)
-    (s : (first_from (suc limit) reading at part).verdict ≡ Sound) where
-  record_sound : own_verdict at reading part ≡ Sound
+    (s : (first_from (suc limit) reading at part).verdict ≡ Ok tt) where
+  record_sound : own_verdict at reading part ≡ Ok tt
   record_sound = go (own_verdict at reading part) refl
     where
-      go : (own : Verdict) → own_verdict at reading part ≡ own → own_verdict at reading part ≡ Sound
-      go Sound o = o
-      go (Refused a b) o =
-          let refuses = first_refused limit reading at part a b o in
-          absurd (unread_not_sound (first_from (suc limit) reading at part) a b refuses s)
+      go : (own : Verdict) → own_verdict at reading part ≡ own → own_verdict at reading part ≡ Ok tt
+      go (Ok _) o = o
+      go (Err one) o =
+          let refuses = first_refused limit reading at part one.number one.place o in
+          absurd (unread_not_sound (first_from (suc limit) reading at part) one.number one.place refuses s)
 
   record_within : Within (size_on part) (length part)
   record_within = sound_within at end_length reading part (record_on part) (found part) record_sound
@@ -68,7 +66,7 @@ record Ends (at left end : ℕ) : Type 0 where
   later : at ≤ end
   within : end ≤ at + left
 
-first_ends : (limit : ℕ) (reading : Reading) (at : ℕ) (part : List ℕ) → (first_from limit reading at part).verdict ≡ Sound
+first_ends : (limit : ℕ) (reading : Reading) (at : ℕ) (part : List ℕ) → (first_from limit reading at part).verdict ≡ Ok tt
     → Ends at (length part) (first_from limit reading at part).end
 unfolding ended
 first_ends zero reading at part s =
@@ -82,7 +80,7 @@ first_ends (suc limit) reading at part s =
     next : FirstSheet
     next = first_from limit (after_record reading (record_on part)) (at + size_on part) (drop (size_on part) part)
 
-    by_end : (next.verdict ≡ Sound → Ends (at + size_on part) (length (drop (size_on part) part)) next.end)
+    by_end : (next.verdict ≡ Ok tt → Ends (at + size_on part) (length (drop (size_on part) part)) next.end)
         → (b : Bool) → is_end (record_on part) ≡ b → Ends at (length part) (first_from (suc limit) reading at part).end
     by_end further true last =
         let w = record_within limit reading at part s in
@@ -108,7 +106,7 @@ module _ (front back rest : List ℕ) (some : 0 < size_on (front ++ back))
 
 -- The bytes up to the end of the first sheet settle it: others behind them give the same.
 front_first : (limit other : ℕ) (reading : Reading) (at : ℕ) (front back rest : List ℕ)
-    → (first_from limit reading at (front ++ back)).verdict ≡ Sound
+    → (first_from limit reading at (front ++ back)).verdict ≡ Ok tt
     → (first_from limit reading at (front ++ back)).end ≡ at + length front → length front < other
     → first_from other reading at (front ++ rest) ≡ first_from limit reading at (front ++ back)
 unfolding ended
@@ -135,17 +133,17 @@ front_first (suc limit) (suc other) reading at front back rest s ends h =
 
     Later : Type 0
     Later =
-        next.verdict ≡ Sound → next.end ≡ at + size + length (drop size front) → length (drop size front) < other
+        next.verdict ≡ Ok tt → next.end ≡ at + size + length (drop size front) → length (drop size front) < other
         → first_from other (after_record reading one) (at + size) (drop size front ++ rest) ≡ next
 
-    sound : own_verdict at reading (front ++ back) ≡ Sound
+    sound : own_verdict at reading (front ++ back) ≡ Ok tt
     sound = record_sound limit reading at (front ++ back) s
 
     some : 0 < size
     some = (record_within limit reading at (front ++ back) s).some
 
     -- nothing is wrong with the same record before other bytes
-    sound_too : size ≤ length front → own_verdict at reading (front ++ rest) ≡ Sound
+    sound_too : size ≤ length front → own_verdict at reading (front ++ rest) ≡ Ok tt
     sound_too fits =
         ap (λ (r : Record). verdict_of (own_checks at reading r)) (record_same front back rest some fits) ∙ sound
 
@@ -178,7 +176,7 @@ front_first (suc limit) (suc other) reading at front back rest s ends h =
 
 -- where a sheet is refused, no sheet and no end stand with the refusal
 first_unread : (limit : ℕ) (reading : Reading) (at : ℕ) (part : List ℕ) (number place : ℕ)
-    → (first_from limit reading at part).verdict ≡ Refused number place
+    → (first_from limit reading at part).verdict ≡ Err (fault number place)
     → first_from limit reading at part ≡ unread number place
 unfolding unread ended
 first_unread zero reading at part number place s =
@@ -193,9 +191,9 @@ first_unread (suc limit) reading at part number place s =
     next = first_from limit (after_record reading (record_on part)) (at + size_on part) (drop (size_on part) part)
 
     Later : Type 0
-    Later = next.verdict ≡ Refused number place → next ≡ unread number place
+    Later = next.verdict ≡ Err (fault number place) → next ≡ unread number place
 
-    by_end : Later → own_verdict at reading part ≡ Sound → (b : Bool) → is_end (record_on part) ≡ b
+    by_end : Later → own_verdict at reading part ≡ Ok tt → (b : Bool) → is_end (record_on part) ≡ b
         → first_from (suc limit) reading at part ≡ unread number place
     by_end later o true last =
         let is = first_ended limit reading at part o last in
@@ -206,12 +204,12 @@ first_unread (suc limit) reading at part number place s =
 
     by_own : Later → (own : Verdict) → own_verdict at reading part ≡ own
         → first_from (suc limit) reading at part ≡ unread number place
-    by_own later Sound o = by_end later o (is_end (record_on part)) refl
-    by_own later (Refused a b) o =
-        unread_by (first_from (suc limit) reading at part) a b (first_refused limit reading at part a b o) number place s
+    by_own later (Ok _) o = by_end later o (is_end (record_on part)) refl
+    by_own later (Err one) o =
+        unread_by (first_from (suc limit) reading at part) one.number one.place (first_refused limit reading at part one.number one.place o) number place s
 
 -- The first sheet of all the bytes, with others behind its end.
-module _ (front back rest : List ℕ) (s : (first_sheet_of (front ++ back)).verdict ≡ Sound)
+module _ (front back rest : List ℕ) (s : (first_sheet_of (front ++ back)).verdict ≡ Ok tt)
     (ends : (first_sheet_of (front ++ back)).end ≡ length front) where
   pub first_of_front : first_sheet_of (front ++ rest) ≡ first_sheet_of (front ++ back)
   unfolding first_sheet_of
@@ -220,17 +218,17 @@ module _ (front back rest : List ℕ) (s : (first_sheet_of (front ++ back)).verd
       (ends ∙ omega arith)
       (omega (arith, length-append front rest))
 
-pub first_within : (bytes : List ℕ) → (first_sheet_of bytes).verdict ≡ Sound → (first_sheet_of bytes).end ≤ length bytes
+pub first_within : (bytes : List ℕ) → (first_sheet_of bytes).verdict ≡ Ok tt → (first_sheet_of bytes).end ≤ length bytes
 unfolding first_sheet_of
 first_within bytes s = omega (arith, (first_ends (suc (length bytes)) new_reading 0 bytes s).within)
 
-pub first_refused_whole : (bytes : List ℕ) (number place : ℕ) → (first_sheet_of bytes).verdict ≡ Refused number place
+pub first_refused_whole : (bytes : List ℕ) (number place : ℕ) → (first_sheet_of bytes).verdict ≡ Err (fault number place)
     → first_sheet_of bytes ≡ unread number place
 unfolding first_sheet_of
 first_refused_whole bytes number place s = first_unread (suc (length bytes)) new_reading 0 bytes number place s
 
 -- the bytes up to the end of the first sheet, read as one sheet
-pub first_alone : (bytes : List ℕ) → (first_sheet_of bytes).verdict ≡ Sound
+pub first_alone : (bytes : List ℕ) → (first_sheet_of bytes).verdict ≡ Ok tt
     → read_of (take (first_sheet_of bytes).end bytes) ≡ whole (first_sheet_of bytes).sheet
 first_alone bytes s =
     let end = (first_sheet_of bytes).end in
@@ -244,7 +242,7 @@ first_alone bytes s =
     sym (answer_whole front (first_sheet_of bytes) (sym same) s (omega (arith, long)))
 
 -- where the first sheet is read and the bytes are whole, it ends with them
-module _ (bytes : List ℕ) (s : (first_sheet_of bytes).verdict ≡ Sound) where
+module _ (bytes : List ℕ) (s : (first_sheet_of bytes).verdict ≡ Ok tt) where
   pub first_more : (first_sheet_of bytes).end < length bytes → read_of bytes ≡ refused 18 (first_sheet_of bytes).end
   first_more h = sym (answer_more bytes (first_sheet_of bytes) refl s h)
 
@@ -253,45 +251,44 @@ module _ (bytes : List ℕ) (s : (first_sheet_of bytes).verdict ≡ Sound) where
 
 -- The bytes as one sheet, by the first sheet on them.
 pub data ByFirst (bytes : List ℕ) : Outcome → Type 0 where
-  none_read : (number place : ℕ) → (first_sheet_of bytes).verdict ≡ Refused number place
+  none_read : (number place : ℕ) → (first_sheet_of bytes).verdict ≡ Err (fault number place)
       → ByFirst bytes (refused number place)
-  more_behind : (first_sheet_of bytes).verdict ≡ Sound → (first_sheet_of bytes).end < length bytes
+  more_behind : (first_sheet_of bytes).verdict ≡ Ok tt → (first_sheet_of bytes).end < length bytes
       → ByFirst bytes (refused 18 (first_sheet_of bytes).end)
-  all_read : (first_sheet_of bytes).verdict ≡ Sound → length bytes ≤ (first_sheet_of bytes).end
+  all_read : (first_sheet_of bytes).verdict ≡ Ok tt → length bytes ≤ (first_sheet_of bytes).end
       → ByFirst bytes (whole (first_sheet_of bytes).sheet)
 
 pub by_first : (bytes : List ℕ) → ByFirst bytes (read_of bytes)
 by_first bytes = go (first_sheet_of bytes).verdict refl
   where
     go : (v : Verdict) → (first_sheet_of bytes).verdict ≡ v → ByFirst bytes (read_of bytes)
-    go (Refused number place) s =
-        rw (← answer_refused bytes (first_sheet_of bytes) refl number place s) (none_read number place s)
-    go Sound s =
+    go (Err one) s =
+        rw (← answer_refused bytes (first_sheet_of bytes) refl one.number one.place s) (none_read one.number one.place s)
+    go (Ok _) s =
         elim (dec_le (length bytes) (first_sheet_of bytes).end) [
           | yes h ↦ rw (first_all bytes s h) (all_read s h)
           | no h ↦ rw (first_more bytes s (omega arith)) (more_behind s (omega arith))
         ]
 
 pub refused_by_first : (bytes : List ℕ) (r : Outcome) → ByFirst bytes r → (number place : ℕ)
-    → r.verdict ≡ Refused number place
-    → ((first_sheet_of bytes).verdict ≡ Refused number place)
-    ⊎ (((first_sheet_of bytes).verdict ≡ Sound) × ((first_sheet_of bytes).end < length bytes)
+    → r.verdict ≡ Err (fault number place)
+    → ((first_sheet_of bytes).verdict ≡ Err (fault number place))
+    ⊎ (((first_sheet_of bytes).verdict ≡ Ok tt) × ((first_sheet_of bytes).end < length bytes)
     × (number ≡ 18) × (place ≡ (first_sheet_of bytes).end))
 unfolding refused whole
 refused_by_first bytes r (none_read a b s) number place e = inl (s ∙ e)
 refused_by_first bytes r (more_behind s h) number place e =
-    let n : number ≡ 18 = cc in
-    let p : place ≡ (first_sheet_of bytes).end = cc in
+    let (n, p) = same_refusal number place 18 (first_sheet_of bytes).end (sym e) in
     inr (s, h, n, p)
 refused_by_first bytes r (all_read s h) number place e = absurd (sound_not_refused number place (sym e))
 
 -- A whole sheet is the first one on its bytes and any others behind them.
-pub sound_first : (sheet rest : List ℕ) → (read_of sheet).verdict ≡ Sound
+pub sound_first : (sheet rest : List ℕ) → (read_of sheet).verdict ≡ Ok tt
     → first_sheet_of (sheet ++ rest) ≡ ended (read_of sheet).sheet (length sheet)
 unfolding refused whole ended
 sound_first sheet rest e = go (read_of sheet) (by_first sheet) e
   where
-    go : (r : Outcome) → ByFirst sheet r → r.verdict ≡ Sound
+    go : (r : Outcome) → ByFirst sheet r → r.verdict ≡ Ok tt
         → first_sheet_of (sheet ++ rest) ≡ ended r.sheet (length sheet)
     go r (none_read a b s) e = absurd (sound_not_refused a b e)
     go r (more_behind s h) e = absurd (sound_not_refused 18 (first_sheet_of sheet).end e)

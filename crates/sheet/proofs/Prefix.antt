@@ -12,7 +12,7 @@ use borrow.Author.Tests.{lt-ltb}
 use Rattle.laws.proofs.Lists.{drop_take}
 use Rattle.laws.proofs.Tests.{not_one}
 use Rattle.quantities.specs.Limits.{row_capacity}
-use Rattle.records.specs.Records.{board_kind, row_kind, board_length, end_length, longest_record, kind_on, size_on}
+use Rattle.records.specs.Records.{kind_of, board_kind, row_kind, board_length, end_length, longest_record, kind_on, size_on}
 use Rattle.records.specs.Records.{cores_on, tick_on, row_fields, record_on, is_end}
 use Rattle.records.specs.declared.Record.{Record}
 use Rattle.records.specs.declared.Record.TheVariants.{Missing, Unknown, Cut, Board, Row, End}
@@ -24,8 +24,8 @@ use Rattle.sheet.specs.Reader.{new_reading, no_sheet, after_record, read_of}
 use Rattle.records.specs.declared.RowFields.{RowFields}
 use Rattle.entries.specs.declared.Sheet.{Sheet}
 use Rattle.sheet.specs.declared.Reading.{Reading}
-use Rattle.sheet.specs.declared.Verdict.{Verdict}
-use Rattle.sheet.specs.declared.Verdict.TheVariants.{Sound, Refused}
+use Rattle.sheet.specs.Checks.{Verdict}
+use Rattle.std.specs.Prelude.{Ok, Err}
 use Rattle.sheet.proofs.Checks.{sound_not_refused, missing_not_sound, unknown_not_sound, cut_not_sound, board_misplaced, row_misplaced, row_placed, sound_row}
 use Rattle.sheet.proofs.Reader.{verdict_at, read_from, behind, sound_within, read_refused, read_whole, read_on, read_of_lem}
 
@@ -82,11 +82,11 @@ both_ways : (b : Bool) → b ≡ true → b ≡ false → ⊥
 both_ways b p q = not_one cc
 
 steady_next : (part : List ℕ) (reading : Reading) (at left : ℕ) → Steady reading at → (one : Record) → Found part one
-    → verdict_of (record_checks at left reading one) ≡ Sound → is_end one ≡ false → Steady (after_record reading one) (at + size_on part)
+    → verdict_of (record_checks at left reading one) ≡ Ok tt → is_end one ≡ false → Steady (after_record reading one) (at + size_on part)
 unfolding after_record is_end board_sheet
 steady_next part reading at left st one (nothing e) s l = absurd (missing_not_sound at left reading s)
 steady_next part reading at left st one (unknown m e) s l = absurd (unknown_not_sound at left reading s)
-steady_next part reading at left st one (cut m short) s l = absurd (cut_not_sound at left reading (get_or part 0 0) s)
+steady_next part reading at left st one (cut m short) s l = absurd (cut_not_sound at left reading (kind_of (get_or part 0 0)) s)
 steady_next part reading at left st one (board kind long) s l =
     let start = st.new (not_begun reading.begun (λ e. sound_not_refused 13 at (sym (board_misplaced at left reading (cores_on part) (tick_on part) e) ∙ s))) in
     record { new = λ e. absurd (both_ways true refl e); near = omega (arith, size_board part kind); few = omega arith }
@@ -132,7 +132,7 @@ prefix_read (suc limit) (suc other) reading at k part st e h m =
     on : record_on (take k part) ≡ one
     on = on_taken part k enough
 
-    by_end : Later → (b : Bool) → is_end one ≡ b → verdict_at at reading part ≡ Sound → Same
+    by_end : Later → (b : Bool) → is_end one ≡ b → verdict_at at reading part ≡ Ok tt → Same
     by_end later true last s =
         read_whole reading at part limit s last
         ∙ sym (read_whole reading at (take k part) other (verdict ∙ s) (ap is_end on ∙ last))
@@ -150,10 +150,10 @@ prefix_read (suc limit) (suc other) reading at k part st e h m =
         ∙ sym (goes ∙ rw (on, size_taken part k enough, same))
 
     by_verdict : Later → (v : Verdict) → verdict_at at reading part ≡ v → Same
-    by_verdict later Sound s = by_end later (is_end one) refl s
-    by_verdict later (Refused number place) s =
-        read_refused reading at part limit number place s
-        ∙ sym (read_refused reading at (take k part) other number place (verdict ∙ s))
+    by_verdict later (Ok _) s = by_end later (is_end one) refl s
+    by_verdict later (Err one) s =
+        read_refused reading at part limit one.number one.place s
+        ∙ sym (read_refused reading at (take k part) other one.number one.place (verdict ∙ s))
 
 steady_new : Steady new_reading 0
 unfolding new_reading no_sheet board_sheet

@@ -16,8 +16,8 @@ use Rattle.sheet.specs.Promises.{MissingAtTheEnd, WholeExactly, BoardAnswered, E
 use Rattle.sheet.specs.Promises.{FirstSheetIsWhole, WholeSheetIsFirst, FirstSheetRefused, RefusedBehindTheFirst}
 use Rattle.records.specs.declared.RowFields.{RowFields}
 use Rattle.entries.specs.declared.Sheet.{Sheet}
-use Rattle.sheet.specs.declared.Verdict.{Verdict}
-use Rattle.sheet.specs.declared.Verdict.TheVariants.{Sound, Refused}
+use Rattle.sheet.specs.Checks.{Verdict, fault}
+use Rattle.std.specs.Prelude.{Ok, Err}
 use Rattle.sheet.specs.declared.Outcome.{Outcome}
 use Rattle.entries.proofs.Sheets.{board_sheet_lem, entries_of_sheet}
 use Rattle.sheet.proofs.Faults.{missing_refused, first_fault_refused, refused_first_fault}
@@ -68,14 +68,14 @@ answered sheet = by_verdict (read_of sheet).verdict refl
         }
 
     by_verdict : (v : Verdict) → (read_of sheet).verdict ≡ v → Answered (read_of sheet).sheet
-    by_verdict Sound e = by_made (sound_made sheet e)
-    by_verdict (Refused number place) e =
+    by_verdict (Ok _) e = by_made (sound_made sheet e)
+    by_verdict (Err one) e =
         record {
           cores = 0;
           tick = record { 0 = 0 };
           entries = [];
           is_sheet =
-              ap (λ (o : Outcome). o.sheet) (refused_no_table sheet number place e) ∙ board_sheet_lem 0 (record { 0 = 0 });
+              ap (λ (o : Outcome). o.sheet) (refused_no_table sheet one.number one.place e) ∙ board_sheet_lem 0 (record { 0 = 0 });
           few = omega arith;
           rise = tt;
         }

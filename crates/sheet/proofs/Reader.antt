@@ -10,7 +10,7 @@ use lib.Dec.{ltb}
 use lib.Seq.{drop-drop}
 use borrow.Author.Tests.{lt-ltb, le-ltb, ltb-true, ltb-false}
 use Rattle.laws.proofs.Tests.{not_one}
-use Rattle.records.specs.Records.{end_length, kind_on, record_on, size_on, is_end}
+use Rattle.records.specs.Records.{kind_of, end_length, kind_on, record_on, size_on, is_end}
 use Rattle.records.specs.declared.Record.{Record}
 use Rattle.records.proofs.Records.{Found, nothing, unknown, cut, board, row, end, found, row_some, size_board, size_end}
 use Rattle.sheet.specs.Checks.{record_checks, own_checks, verdict_of}
@@ -18,11 +18,11 @@ use Rattle.sheet.specs.Reader.{new_reading, after_record, refused, whole}
 use Rattle.sheet.specs.Reader.{unread, ended, first_from, first_sheet_of, closed, read_of}
 use Rattle.entries.specs.declared.Sheet.{Sheet}
 use Rattle.sheet.specs.declared.Reading.{Reading}
-use Rattle.sheet.specs.declared.Verdict.{Verdict}
-use Rattle.sheet.specs.declared.Verdict.TheVariants.{Sound, Refused}
+use Rattle.sheet.specs.Checks.{Verdict, fault}
+use Rattle.std.specs.Prelude.{Ok, Err}
 use Rattle.sheet.specs.declared.FirstSheet.{FirstSheet}
 use Rattle.sheet.specs.declared.Outcome.{Outcome}
-use Rattle.sheet.proofs.Checks.{closed_verdict, checks_closed, sound_not_refused}
+use Rattle.sheet.proofs.Checks.{closed_verdict, checks_closed, sound_not_refused, same_refusal}
 use Rattle.sheet.proofs.Checks.{missing_not_sound, unknown_not_sound, cut_not_sound}
 
 -- the verdict on the record that stands on a part
@@ -39,10 +39,10 @@ pub record Within (size left : ℕ) : Type 0 where
   pub all : size ≤ left
 
 pub sound_within : (at left : ℕ) (reading : Reading) (part : List ℕ) (r : Record) → Found part r
-    → verdict_of (record_checks at left reading r) ≡ Sound → Within (size_on part) (length part)
+    → verdict_of (record_checks at left reading r) ≡ Ok tt → Within (size_on part) (length part)
 sound_within at left reading part r (nothing e) s = absurd (missing_not_sound at left reading s)
 sound_within at left reading part r (unknown h e) s = absurd (unknown_not_sound at left reading s)
-sound_within at left reading part r (cut h short) s = absurd (cut_not_sound at left reading (get_or part 0 0) s)
+sound_within at left reading part r (cut h short) s = absurd (cut_not_sound at left reading (kind_of (get_or part 0 0)) s)
 sound_within at left reading part r (board e l) s =
     record { some = omega (arith, size_board part e); all = omega (arith, size_board part e) }
 sound_within at left reading part r (row is l) s = record { some = row_some (kind_on part) is; all = l }
@@ -51,17 +51,17 @@ sound_within at left reading part r (end e l) s =
 
 -- One record for the first sheet: it is refused, it is the end, or the reading goes on after it.
 module _ (limit : ℕ) (reading : Reading) (at : ℕ) (part : List ℕ) where
-  pub first_refused : (number place : ℕ) → own_verdict at reading part ≡ Refused number place
+  pub first_refused : (number place : ℕ) → own_verdict at reading part ≡ Err (fault number place)
       → first_from (suc limit) reading at part ≡ unread number place
   unfolding first_from
   first_refused number place e = rw (e, first_from)
 
-  pub first_ended : own_verdict at reading part ≡ Sound → is_end (record_on part) ≡ true
+  pub first_ended : own_verdict at reading part ≡ Ok tt → is_end (record_on part) ≡ true
       → first_from (suc limit) reading at part ≡ ended reading.sheet (at + size_on part)
   unfolding first_from
   first_ended e last = rw (e, last, first_from)
 
-  pub first_on : own_verdict at reading part ≡ Sound → is_end (record_on part) ≡ false
+  pub first_on : own_verdict at reading part ≡ Ok tt → is_end (record_on part) ≡ false
       → first_from (suc limit) reading at part
       ≡ first_from limit (after_record reading (record_on part)) (at + size_on part) (drop (size_on part) part)
   unfolding first_from
@@ -110,17 +110,17 @@ module _ (reading : Reading) (at : ℕ) (part : List ℕ) where
       → ltb end_length (length part) ≡ more → verdict_at at reading part ≡ closed_verdict own (at + end_length) (b && more)
   verdict_closed own o b more last m = checks_closed at (length part) reading (record_on part) ∙ rw (o, last, m) refl
 
-  pub own_sound : verdict_at at reading part ≡ Sound → own_verdict at reading part ≡ Sound
+  pub own_sound : verdict_at at reading part ≡ Ok tt → own_verdict at reading part ≡ Ok tt
   unfolding closed_verdict
   own_sound e = go (own_verdict at reading part) refl
     where
-      go : (own : Verdict) → own_verdict at reading part ≡ own → own_verdict at reading part ≡ Sound
-      go Sound o = o
-      go (Refused a b) o =
-          absurd (sound_not_refused a b (sym (verdict_closed (Refused a b) o _ _ refl refl) ∙ e))
+      go : (own : Verdict) → own_verdict at reading part ≡ own → own_verdict at reading part ≡ Ok tt
+      go (Ok _) o = o
+      go (Err one) o =
+          absurd (sound_not_refused one.number one.place (sym (verdict_closed (Err (fault one.number one.place)) o _ _ refl refl) ∙ e))
 
   module _ (limit : ℕ) where
-    pub read_refused : (number place : ℕ) → verdict_at at reading part ≡ Refused number place
+    pub read_refused : (number place : ℕ) → verdict_at at reading part ≡ Err (fault number place)
         → read_from (suc limit) reading at part ≡ refused number place
     unfolding read_from closed_verdict
     read_refused number place e = by_own (own_verdict at reading part) refl
@@ -128,39 +128,37 @@ module _ (reading : Reading) (at : ℕ) (part : List ℕ) where
         now : Outcome
         now = closed (at + length part) (first_from (suc limit) reading at part)
 
-        same : (a b : ℕ) → verdict_at at reading part ≡ Refused a b → refused a b ≡ refused number place
+        same : (a b : ℕ) → verdict_at at reading part ≡ Err (fault a b) → refused a b ≡ refused number place
         same a b v =
-            let both : Refused a b ≡ Refused number place = sym v ∙ e in
-            let n : a ≡ number = cc in
-            let p : b ≡ place = cc in
+            let (n, p) = same_refusal a b number place (sym v ∙ e) in
             rw (n, p)
 
-        by_more : own_verdict at reading part ≡ Sound → is_end (record_on part) ≡ true → (more : Bool)
+        by_more : own_verdict at reading part ≡ Ok tt → is_end (record_on part) ≡ true → (more : Bool)
             → ltb end_length (length part) ≡ more → closed (at + length part) (first_from (suc limit) reading at part) ≡ refused number place
         by_more o last true m =
             let size = end_size part (record_on part) (found part) last in
             let long = ltb-true end_length (length part) m in
             ap (closed (at + length part)) (first_ended limit reading at part o last)
             ∙ closed_more (at + length part) reading.sheet (at + size_on part) (omega arith)
-            ∙ rw size (same 18 (at + end_length) (verdict_closed Sound o true true last m))
+            ∙ rw size (same 18 (at + end_length) (verdict_closed (Ok tt) o true true last m))
         by_more o last false m =
-            absurd (sound_not_refused number place (sym e ∙ verdict_closed Sound o true false last m))
+            absurd (sound_not_refused number place (sym e ∙ verdict_closed (Ok tt) o true false last m))
 
-        by_end : own_verdict at reading part ≡ Sound → (b : Bool) → is_end (record_on part) ≡ b
+        by_end : own_verdict at reading part ≡ Ok tt → (b : Bool) → is_end (record_on part) ≡ b
             → closed (at + length part) (first_from (suc limit) reading at part) ≡ refused number place
         by_end o true last = by_more o last (ltb end_length (length part)) refl
         by_end o false last =
-            absurd (sound_not_refused number place (sym e ∙ verdict_closed Sound o false _ last refl))
+            absurd (sound_not_refused number place (sym e ∙ verdict_closed (Ok tt) o false _ last refl))
 
         by_own : (own : Verdict) → own_verdict at reading part ≡ own
             → closed (at + length part) (first_from (suc limit) reading at part) ≡ refused number place
-        by_own Sound o = by_end o (is_end (record_on part)) refl
-        by_own (Refused a b) o =
-            ap (closed (at + length part)) (first_refused limit reading at part a b o)
-            ∙ closed_unread (at + length part) a b
-            ∙ same a b (verdict_closed (Refused a b) o _ _ refl refl)
+        by_own (Ok _) o = by_end o (is_end (record_on part)) refl
+        by_own (Err one) o =
+            ap (closed (at + length part)) (first_refused limit reading at part one.number one.place o)
+            ∙ closed_unread (at + length part) one.number one.place
+            ∙ same one.number one.place (verdict_closed (Err (fault one.number one.place)) o _ _ refl refl)
 
-    pub read_whole : verdict_at at reading part ≡ Sound → is_end (record_on part) ≡ true
+    pub read_whole : verdict_at at reading part ≡ Ok tt → is_end (record_on part) ≡ true
         → read_from (suc limit) reading at part ≡ whole reading.sheet
     unfolding read_from closed_verdict
     read_whole e last =
@@ -171,9 +169,9 @@ module _ (reading : Reading) (at : ℕ) (part : List ℕ) where
         none : (more : Bool) → ltb end_length (length part) ≡ more → length part ≤ end_length
         none false m = ltb-false end_length (length part) m
         none true m =
-            absurd (sound_not_refused 18 (at + end_length) (sym (verdict_closed Sound (own_sound e) true true last m) ∙ e))
+            absurd (sound_not_refused 18 (at + end_length) (sym (verdict_closed (Ok tt) (own_sound e) true true last m) ∙ e))
 
-    pub read_on : verdict_at at reading part ≡ Sound → is_end (record_on part) ≡ false
+    pub read_on : verdict_at at reading part ≡ Ok tt → is_end (record_on part) ≡ false
         → read_from (suc limit) reading at part ≡ behind limit reading at part
     unfolding read_from
     read_on e last =
@@ -201,20 +199,20 @@ read_of_lem bytes = ap (λ (n : ℕ). closed n (first_from (suc (length bytes)) 
 
 -- The answer of a sheet, by the first sheet on its bytes.
 module _ (bytes : List ℕ) (first : FirstSheet) (is : first ≡ first_sheet_of bytes) where
-  pub answer_refused : (number place : ℕ) → first.verdict ≡ Refused number place → refused number place ≡ read_of bytes
+  pub answer_refused : (number place : ℕ) → first.verdict ≡ Err (fault number place) → refused number place ≡ read_of bytes
   unfolding read_of closed
   answer_refused number place e =
       let here : closed (length bytes) first ≡ refused number place = rw (e, closed) refl in
       sym here ∙ ap (closed (length bytes)) is
 
-  pub answer_more : first.verdict ≡ Sound → first.end < length bytes → refused 18 first.end ≡ read_of bytes
+  pub answer_more : first.verdict ≡ Ok tt → first.end < length bytes → refused 18 first.end ≡ read_of bytes
   unfolding read_of closed
   answer_more e h =
       let here : closed (length bytes) first ≡ refused 18 first.end =
       rw (e, closed, lt-ltb first.end (length bytes) h) refl in
       sym here ∙ ap (closed (length bytes)) is
 
-  pub answer_whole : first.verdict ≡ Sound → length bytes ≤ first.end → whole first.sheet ≡ read_of bytes
+  pub answer_whole : first.verdict ≡ Ok tt → length bytes ≤ first.end → whole first.sheet ≡ read_of bytes
   unfolding read_of closed
   answer_whole e h =
       let here : closed (length bytes) first ≡ whole first.sheet =
@@ -227,21 +225,21 @@ module _ (bytes : List ℕ) (reading : Reading) (at : ℕ) (now : Reads bytes re
   more = let w = now.within in omega (arith, now.enough)
 
   -- for the first sheet
-  pub own_refused : (number place : ℕ) → own_verdict at reading (drop at bytes) ≡ Refused number place
+  pub own_refused : (number place : ℕ) → own_verdict at reading (drop at bytes) ≡ Err (fault number place)
       → unread number place ≡ first_sheet_of bytes
   own_refused number place e =
       sym (first_refused (now.limit - 1) reading at (drop at bytes) number place e) ∙ (rw more at now.same)
 
-  pub own_ended : own_verdict at reading (drop at bytes) ≡ Sound → is_end (record_on (drop at bytes)) ≡ true
+  pub own_ended : own_verdict at reading (drop at bytes) ≡ Ok tt → is_end (record_on (drop at bytes)) ≡ true
       → ended reading.sheet (at + size_on (drop at bytes)) ≡ first_sheet_of bytes
   own_ended e last =
       sym (first_ended (now.limit - 1) reading at (drop at bytes) e last) ∙ (rw more at now.same)
 
-  pub own_within : own_verdict at reading (drop at bytes) ≡ Sound → Within (size_on (drop at bytes)) (length bytes - at)
+  pub own_within : own_verdict at reading (drop at bytes) ≡ Ok tt → Within (size_on (drop at bytes)) (length bytes - at)
   own_within e =
       rw length-drop at (sound_within at end_length reading (drop at bytes) (record_on (drop at bytes)) (found (drop at bytes)) e)
 
-  pub own_on : own_verdict at reading (drop at bytes) ≡ Sound → is_end (record_on (drop at bytes)) ≡ false
+  pub own_on : own_verdict at reading (drop at bytes) ≡ Ok tt → is_end (record_on (drop at bytes)) ≡ false
       → Reads bytes (after_record reading (record_on (drop at bytes))) (at + size_on (drop at bytes))
   own_on e last =
       let w = own_within e in
@@ -263,18 +261,18 @@ module _ (bytes : List ℕ) (reading : Reading) (at : ℕ) (now : Reads bytes re
       let long : at + length (drop at bytes) ≡ length bytes = omega (arith, now.within, length-drop at bytes) in
       ap (closed (at + length (drop at bytes))) (rw more at now.same) ∙ ap (λ (n : ℕ). closed n (first_sheet_of bytes)) long
 
-  pub turn_refused : (number place : ℕ) → verdict_at at reading (drop at bytes) ≡ Refused number place
+  pub turn_refused : (number place : ℕ) → verdict_at at reading (drop at bytes) ≡ Err (fault number place)
       → refused number place ≡ read_of bytes
   turn_refused number place e = sym (read_refused reading at (drop at bytes) (now.limit - 1) number place e) ∙ answers
 
-  pub turn_whole : verdict_at at reading (drop at bytes) ≡ Sound → is_end (record_on (drop at bytes)) ≡ true
+  pub turn_whole : verdict_at at reading (drop at bytes) ≡ Ok tt → is_end (record_on (drop at bytes)) ≡ true
       → whole reading.sheet ≡ read_of bytes
   turn_whole e last = sym (read_whole reading at (drop at bytes) (now.limit - 1) e last) ∙ answers
 
-  pub turn_within : verdict_at at reading (drop at bytes) ≡ Sound
+  pub turn_within : verdict_at at reading (drop at bytes) ≡ Ok tt
       → Within (size_on (drop at bytes)) (length bytes - at)
   turn_within e = own_within (own_sound reading at (drop at bytes) e)
 
-  pub turn_on : verdict_at at reading (drop at bytes) ≡ Sound → is_end (record_on (drop at bytes)) ≡ false
+  pub turn_on : verdict_at at reading (drop at bytes) ≡ Ok tt → is_end (record_on (drop at bytes)) ≡ false
       → Reads bytes (after_record reading (record_on (drop at bytes))) (at + size_on (drop at bytes))
   turn_on e last = own_on (own_sound reading at (drop at bytes) e) last

@@ -15,7 +15,7 @@ use Rattle.laws.proofs.Permuted.{permuted_back, permuted_move}
 use Rattle.laws.proofs.Tests.{not_one}
 use Rattle.quantities.specs.Limits.{row_capacity}
 use Rattle.quantities.specs.declared.Micros.{Micros}
-use Rattle.records.specs.Records.{board_kind, board_length, size_on, cores_on, tick_on, count_on, row_fields}
+use Rattle.records.specs.Records.{kind_of, board_kind, board_length, size_on, cores_on, tick_on, count_on, row_fields}
 use Rattle.records.specs.Records.{record_on, is_end, OneRecord, RowRecord}
 use Rattle.records.specs.declared.Record.{Record}
 use Rattle.records.proofs.Records.{Found, nothing, unknown, cut, board, row, end, found, size_board}
@@ -27,7 +27,7 @@ use Rattle.sheet.specs.Faults.{record_at, size_at, checks_at, ReadTo, start, nex
 use Rattle.sheet.specs.Whole.{joined, entries_on}
 use Rattle.records.specs.declared.RowFields.{RowFields}
 use Rattle.sheet.specs.declared.Reading.{Reading}
-use Rattle.sheet.specs.declared.Verdict.TheVariants.{Sound}
+use Rattle.std.specs.Prelude.{Ok}
 use Rattle.entries.proofs.Sheets.{board_sheet_lem, entries_of_sheet, count_of_sheet}
 use Rattle.sheet.proofs.Checks.{sound_not_refused, missing_not_sound, unknown_not_sound, cut_not_sound}
 use Rattle.sheet.proofs.Checks.{board_misplaced, row_misplaced, row_placed, end_misplaced, sound_row}
@@ -77,7 +77,7 @@ record RowHere (part : List ℕ) (cores : ℕ) (tick : Micros) (entries : List R
 
 module _ (sheet : List ℕ) where
   -- the board record, read first
-  known_board : (one : Record) → Found sheet one → verdict_of (record_checks 0 (length sheet) new_reading one) ≡ Sound
+  known_board : (one : Record) → Found sheet one → verdict_of (record_checks 0 (length sheet) new_reading one) ≡ Ok tt
       → Known sheet (after_record new_reading one) (size_on sheet)
   unfolding new_reading misplaced after_record joined entries_on
   known_board one (board kind long) s =
@@ -99,13 +99,13 @@ module _ (sheet : List ℕ) where
       absurd (sound_not_refused 13 0 (sym (row_misplaced 0 (length sheet) new_reading (row_fields sheet) refl) ∙ s))
   known_board one (end kind long) s =
       absurd (sound_not_refused 13 0 (sym (end_misplaced 0 (length sheet) new_reading (count_on sheet) refl) ∙ s))
-  known_board one (cut h short) s = absurd (cut_not_sound 0 (length sheet) new_reading (get_or sheet 0 0) s)
+  known_board one (cut h short) s = absurd (cut_not_sound 0 (length sheet) new_reading (kind_of (get_or sheet 0 0)) s)
   known_board one (unknown h e) s = absurd (unknown_not_sound 0 (length sheet) new_reading s)
   known_board one (nothing e) s = absurd (missing_not_sound 0 (length sheet) new_reading s)
 
   -- a row record, read after it
   known_row : (at : ℕ) (part : List ℕ) (cores : ℕ) (tick : Micros) (entries : List RowFields) (one : Record)
-      → Found part one → verdict_of (record_checks at (length part) (rows_at cores tick entries) one) ≡ Sound
+      → Found part one → verdict_of (record_checks at (length part) (rows_at cores tick entries) one) ≡ Ok tt
       → is_end one ≡ false → RowHere part cores tick entries (after_record (rows_at cores tick entries) one)
   unfolding is_end misplaced
   known_row at part cores tick entries one (row is long) s last =
@@ -120,7 +120,7 @@ module _ (sheet : List ℕ) where
   known_row at part cores tick entries one (board kind long) s last =
       absurd (sound_not_refused 13 at (sym (board_misplaced at (length part) (rows_at cores tick entries) (cores_on part) (tick_on part) refl) ∙ s))
   known_row at part cores tick entries one (cut h short) s last =
-      absurd (cut_not_sound at (length part) (rows_at cores tick entries) (get_or part 0 0) s)
+      absurd (cut_not_sound at (length part) (rows_at cores tick entries) (kind_of (get_or part 0 0)) s)
   known_row at part cores tick entries one (unknown h e) s last =
       absurd (unknown_not_sound at (length part) (rows_at cores tick entries) s)
   known_row at part cores tick entries one (nothing e) s last =
@@ -128,13 +128,13 @@ module _ (sheet : List ℕ) where
 
   -- so a reading that is known is known after the next record
   known_next : (reading : Reading) (at : ℕ) → Known sheet reading at
-      → verdict_of (checks_at sheet reading at) ≡ Sound → is_end (record_at sheet at) ≡ false
+      → verdict_of (checks_at sheet reading at) ≡ Ok tt → is_end (record_at sheet at) ≡ false
       → Known sheet (after_record reading (record_at sheet at)) (at + size_at sheet at)
   known_next reading at known s last =
       let part = drop at sheet in
       let cores = cores_on known.board in
       let tick = tick_on known.board in
-      let sound : verdict_of (record_checks at (length part) (rows_at cores tick known.entries) (record_on part)) ≡ Sound = rw known.is at s in
+      let sound : verdict_of (record_checks at (length part) (rows_at cores tick known.entries) (record_on part)) ≡ Ok tt = rw known.is at s in
       let here = known_row at part cores tick known.entries (record_on part) (found part) sound last in
       let front = take (size_on part) part in
       let new = row_fields front in
@@ -163,7 +163,7 @@ module _ (sheet : List ℕ) where
       }
 
   known_first : (reading : Reading) (at : ℕ) → at ≡ 0 → reading ≡ new_reading
-      → verdict_of (checks_at sheet reading at) ≡ Sound
+      → verdict_of (checks_at sheet reading at) ≡ Ok tt
       → Known sheet (after_record reading (record_at sheet at)) (at + size_at sheet at)
   known_first reading at none new s =
       rw (none, new, zero-add) (known_board (record_on sheet) (found sheet) (rw (none, new) at s))

@@ -8,7 +8,7 @@ use lib.ListN.{length, get_or, take, drop, take-append-drop}
 use Rattle.laws.specs.Each.{Each}
 use Rattle.quantities.specs.Limits.{row_capacity}
 use Rattle.quantities.specs.declared.Micros.{Micros}
-use Rattle.records.specs.Records.{board_kind, end_kind, board_length, is_row_kind, kind_on, size_on}
+use Rattle.records.specs.Records.{kind_of, board_kind, end_kind, board_length, is_row_kind, kind_on, size_on}
 use Rattle.records.specs.Records.{cores_on, tick_on, count_on, row_fields, record_on, OneRecord, RowRecord}
 use Rattle.records.specs.declared.Record.{Record}
 use Rattle.records.proofs.Records.{Found, nothing, unknown, cut, board, row, end, found, length_end}
@@ -19,8 +19,8 @@ use Rattle.sheet.specs.Reader.{new_reading, refused, read_of}
 use Rattle.sheet.specs.Whole.{joined, entries_on, PriorityInRange, MadeOf}
 use Rattle.records.specs.declared.RowFields.{RowFields}
 use Rattle.sheet.specs.declared.Reading.{Reading}
-use Rattle.sheet.specs.declared.Verdict.{Verdict}
-use Rattle.sheet.specs.declared.Verdict.TheVariants.{Sound, Refused}
+use Rattle.sheet.specs.Checks.{Verdict}
+use Rattle.std.specs.Prelude.{Ok, Err}
 use Rattle.sheet.specs.declared.Outcome.{Outcome}
 use Rattle.entries.proofs.Sheets.{entries_of_sheet, count_of_sheet}
 use Rattle.sheet.proofs.Checks.{SoundRow, sound_not_refused, missing_not_sound, unknown_not_sound, cut_not_sound, board_misplaced, board_placed, row_misplaced, row_placed, end_misplaced, end_placed, sound_row, sound_end, sound_board}
@@ -30,15 +30,15 @@ use Rattle.entries.proofs.Order.{length_inserted}
 use Rattle.sheet.proofs.Whole.{rows_at, board_fits, rows_placed, row_read, board_read, length_entries}
 
 -- where the answer is sound, so is the verdict on the record that stands there
-read_sound : (limit : ℕ) (reading : Reading) (at : ℕ) (part : List ℕ) → (read_from (suc limit) reading at part).verdict ≡ Sound
-    → verdict_at at reading part ≡ Sound
+read_sound : (limit : ℕ) (reading : Reading) (at : ℕ) (part : List ℕ) → (read_from (suc limit) reading at part).verdict ≡ Ok tt
+    → verdict_at at reading part ≡ Ok tt
 unfolding refused
 read_sound limit reading at part s = go (verdict_at at reading part) refl
   where
-    go : (v : Verdict) → verdict_at at reading part ≡ v → verdict_at at reading part ≡ Sound
-    go Sound e = e
-    go (Refused number place) e =
-        absurd (sound_not_refused number place (ap (λ (o : Outcome). o.verdict) (sym (read_refused reading at part limit number place e)) ∙ s))
+    go : (v : Verdict) → verdict_at at reading part ≡ v → verdict_at at reading part ≡ Ok tt
+    go (Ok _) e = e
+    go (Err one) e =
+        absurd (sound_not_refused one.number one.place (ap (λ (o : Outcome). o.verdict) (sym (read_refused reading at part limit one.number one.place e)) ∙ s))
 
 -- The rest of a sheet past the board record and some rows, where it is read to the end.
 record Rest (tick : Micros) (entries : List RowFields) (part : List ℕ) : Type 0 where
@@ -79,10 +79,10 @@ module _ (cores : ℕ) (tick : Micros) where
   -- one record of the rest: a row that is accepted, or the end
   rest_step : (limit : ℕ) (entries : List RowFields) (at : ℕ) (part : List ℕ)
       → ((entries : List RowFields) (at : ℕ) (part : List ℕ)
-      → (read_from limit (rows_at cores tick entries) at part).verdict ≡ Sound → Rest tick entries part)
+      → (read_from limit (rows_at cores tick entries) at part).verdict ≡ Ok tt → Rest tick entries part)
       → (one : Record) → Found part one
-      → verdict_of (record_checks at (length part) (rows_at cores tick entries) one) ≡ Sound
-      → (read_from (suc limit) (rows_at cores tick entries) at part).verdict ≡ Sound → Rest tick entries part
+      → verdict_of (record_checks at (length part) (rows_at cores tick entries) one) ≡ Ok tt
+      → (read_from (suc limit) (rows_at cores tick entries) at part).verdict ≡ Ok tt → Rest tick entries part
   unfolding joined entries_on misplaced
   rest_step limit entries at part later one (row is long) s sound =
       let reading = rows_at cores tick entries in
@@ -105,13 +105,13 @@ module _ (cores : ℕ) (tick : Micros) where
   rest_step limit entries at part later one (board kind long) s sound =
       absurd (sound_not_refused 13 at (sym (board_misplaced at (length part) (rows_at cores tick entries) (cores_on part) (tick_on part) refl) ∙ s))
   rest_step limit entries at part later one (cut h short) s sound =
-      absurd (cut_not_sound at (length part) (rows_at cores tick entries) (get_or part 0 0) s)
+      absurd (cut_not_sound at (length part) (rows_at cores tick entries) (kind_of (get_or part 0 0)) s)
   rest_step limit entries at part later one (unknown h e) s sound =
       absurd (unknown_not_sound at (length part) (rows_at cores tick entries) s)
   rest_step limit entries at part later one (nothing e) s sound =
       absurd (missing_not_sound at (length part) (rows_at cores tick entries) s)
 
-  rest_of : (limit : ℕ) (entries : List RowFields) (at : ℕ) (part : List ℕ) → (read_from limit (rows_at cores tick entries) at part).verdict ≡ Sound → Rest tick entries part
+  rest_of : (limit : ℕ) (entries : List RowFields) (at : ℕ) (part : List ℕ) → (read_from limit (rows_at cores tick entries) at part).verdict ≡ Ok tt → Rest tick entries part
   unfolding refused
   rest_of zero entries at part s =
       let none = ap (λ (o : Outcome). o.verdict) (read_none (rows_at cores tick entries) at part) in
@@ -145,8 +145,8 @@ made_rest sheet first tick rest =
 
 -- the first record is the board, and the rest is read behind it
 made_step : (sheet : List ℕ) (one : Record) → Found sheet one
-    → verdict_of (record_checks 0 (length sheet) new_reading one) ≡ Sound
-    → (read_from (suc (length sheet)) new_reading 0 sheet).verdict ≡ Sound → MadeOf sheet
+    → verdict_of (record_checks 0 (length sheet) new_reading one) ≡ Ok tt
+    → (read_from (suc (length sheet)) new_reading 0 sheet).verdict ≡ Ok tt → MadeOf sheet
 unfolding new_reading misplaced
 made_step sheet one (board kind long) s sound =
     let front = take board_length sheet in
@@ -161,12 +161,12 @@ made_step sheet one (row kind long) s sound =
     absurd (sound_not_refused 13 0 (sym (row_misplaced 0 (length sheet) new_reading (row_fields sheet) refl) ∙ s))
 made_step sheet one (end kind long) s sound =
     absurd (sound_not_refused 13 0 (sym (end_misplaced 0 (length sheet) new_reading (count_on sheet) refl) ∙ s))
-made_step sheet one (cut h short) s sound = absurd (cut_not_sound 0 (length sheet) new_reading (get_or sheet 0 0) s)
+made_step sheet one (cut h short) s sound = absurd (cut_not_sound 0 (length sheet) new_reading (kind_of (get_or sheet 0 0)) s)
 made_step sheet one (unknown h e) s sound = absurd (unknown_not_sound 0 (length sheet) new_reading s)
 made_step sheet one (nothing e) s sound = absurd (missing_not_sound 0 (length sheet) new_reading s)
 
 -- A sheet that is read to the end is made of a board record, rows and an end record as document 01 asks.
-pub sound_made : (sheet : List ℕ) → (read_of sheet).verdict ≡ Sound → MadeOf sheet
+pub sound_made : (sheet : List ℕ) → (read_of sheet).verdict ≡ Ok tt → MadeOf sheet
 sound_made sheet s =
     let sound = ap (λ (o : Outcome). o.verdict) (sym (read_of_lem sheet)) ∙ s in
     made_step sheet (record_on sheet) (found sheet) (read_sound (length sheet) new_reading 0 sheet sound) sound

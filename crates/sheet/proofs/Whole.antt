@@ -21,7 +21,7 @@ use Rattle.sheet.specs.Checks.{misplaced}
 use Rattle.sheet.specs.Reader.{new_reading, after_record, whole, read_of}
 use Rattle.sheet.specs.Whole.{joined, entries_on, WholeSheet, bytes_of}
 use Rattle.sheet.specs.declared.Reading.{Reading}
-use Rattle.sheet.specs.declared.Verdict.TheVariants.{Sound}
+use Rattle.std.specs.Prelude.{Ok}
 use Rattle.entries.proofs.Sheets.{board_sheet_lem, entries_of_sheet, count_of_sheet, sheet_with}
 use Rattle.sheet.proofs.Checks.{SoundRow, SoundEnd, board_placed, row_placed, end_placed, row_sound, end_sound, board_sound}
 use Rattle.sheet.proofs.Accepted.{Accepted, Fresh, accepted}
@@ -49,7 +49,7 @@ board_read board rest first some limit =
     let size = board_long board first in
     let takes : size_on (board ++ rest) ≡ board_length =
     size_board (board ++ rest) (kind_front board rest (omega arith) ∙ first.of_kind) in
-    let sound : verdict_at 0 new_reading (board ++ rest) ≡ Sound = rw on (board_placed 0 (length (board ++ rest)) new_reading (cores_on board) (tick_on board) board_fits ∙ board_sound 0 (tick_on board) some) in
+    let sound : verdict_at 0 new_reading (board ++ rest) ≡ Ok tt = rw on (board_placed 0 (length (board ++ rest)) new_reading (cores_on board) (tick_on board) board_fits ∙ board_sound 0 (tick_on board) some) in
     read_on new_reading 0 (board ++ rest) limit sound (ap is_end on)
     ∙ rw (on, takes, drop_at board rest board_length size, board_sheet_lem (cores_on board) (tick_on board))
 
@@ -79,7 +79,7 @@ module _ (cores : ℕ) (tick : Micros) where
   row_read entries part at limit is long s =
       let on = on_row part is long in
       let room : length entries < row_capacity = omega (arith, s.room, count_of_sheet cores tick entries) in
-      let sound : verdict_at at (rows_at cores tick entries) part ≡ Sound = rw on (row_placed at (length part) (rows_at cores tick entries) (row_fields part) rows_placed.0 ∙ row_sound at (sheet_of cores tick entries) (row_fields part).priority s) in
+      let sound : verdict_at at (rows_at cores tick entries) part ≡ Ok tt = rw on (row_placed at (length part) (rows_at cores tick entries) (row_fields part) rows_placed.0 ∙ row_sound at (sheet_of cores tick entries) (row_fields part).priority s) in
       read_on (rows_at cores tick entries) at part limit sound (ap is_end on) ∙ rw (on, after_row entries (row_fields part) room)
 
   -- an end record that is sound ends the reading
@@ -90,7 +90,7 @@ module _ (cores : ℕ) (tick : Micros) where
       let on = end_alone part last in
       let long = end_long part last in
       let fits : SoundEnd (length part) (sheet_of cores tick entries) (count_on part) = record { counted = omega (arith, count_of_sheet cores tick entries); last = omega arith } in
-      let sound : verdict_at at (rows_at cores tick entries) part ≡ Sound = rw on (end_placed at (length part) (rows_at cores tick entries) (count_on part) rows_placed.1 ∙ end_sound at (length part) (sheet_of cores tick entries) (count_on part) fits) in
+      let sound : verdict_at at (rows_at cores tick entries) part ≡ Ok tt = rw on (end_placed at (length part) (rows_at cores tick entries) (count_on part) rows_placed.1 ∙ end_sound at (length part) (sheet_of cores tick entries) (count_on part) fits) in
       read_whole (rows_at cores tick entries) at part limit sound (ap is_end on)
 
   -- rows that are accepted, and an end record that counts them, are read to the end

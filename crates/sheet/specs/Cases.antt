@@ -1,12 +1,11 @@
 -- The written-out sheets of document 01, and some that are turned away, each read by the definition.
-use Rattle.std.specs.Prelude.{ℕ, zero, suc, ◌≡◌, refl, List, [], ◌∷◌, ◌++◌, replicate}
+use Rattle.std.specs.Prelude.{ℕ, zero, suc, ◌≡◌, refl, List, [], ◌∷◌, ◌++◌, replicate, Ok}
 use Rattle.quantities.specs.Row.{row_of}
 use Rattle.quantities.specs.Table.{rows_of}
 use Rattle.records.specs.declared.RowFields.{RowFields}
 use Rattle.entries.specs.Entries.{no_entry, table_in, table_of}
 use Rattle.sheet.specs.Reader.{refused, whole, read_of}
 use Rattle.sheet.specs.Computing.{sheets_compute}
-use Rattle.sheet.specs.declared.Verdict.TheVariants.{Sound}
 
 abbrev entry : (priority label c d t : ℕ) → RowFields
 entry priority label c d t =
@@ -127,7 +126,7 @@ rows_down zero = []
 rows_down (suc n) = row_with 0 (suc n) ++ rows_down n
 
 -- 32 rows are read, though they share a label and their times; a 33rd is one too many
-rows_32 : (read_of (board ++ rows_down 32 ++ (3 ∷ 32 ∷ []))).verdict ≡ Sound
+rows_32 : (read_of (board ++ rows_down 32 ++ (3 ∷ 32 ∷ []))).verdict ≡ Ok tt
 unfolding sheets_compute
 rows_32 = refl
 

@@ -1,19 +1,18 @@
 -- The checks of a record, in the order of document 01, and the verdict that they give.
-use Rattle.std.specs.Prelude.{ℕ, ◌+◌, Bool, true, not, cond, ◌||◌, List, [], ◌∷◌, eqb, leb, ltb}
+use Rattle.std.specs.Prelude.{ℕ, ◌+◌, Bool, true, not, cond, ◌||◌, List, [], ◌∷◌, eqb, leb, ltb, Result, Ok, Err}
 use Rattle.std.proofs.Math.Option.{none, some}
 use Rattle.quantities.specs.Limits.{row_capacity}
 use Rattle.laws.specs.Checks.{Check, first_failing}
 use Rattle.quantities.specs.Paper.{Paper}
 use Rattle.quantities.specs.Checks.{check}
 use Rattle.quantities.specs.declared.Micros.{Micros}
-use Rattle.records.specs.Records.{board_kind, row_kind, end_kind, end_length}
+use Rattle.records.specs.Records.{board_kind, row_kind, end_kind, end_length, kind_number}
 use Rattle.records.specs.declared.Record.{Record}
 use Rattle.records.specs.declared.Record.TheVariants.{Missing, Unknown, Cut, Board, Row, End}
 use Rattle.entries.specs.Entries.{entries_of, used}
 use Rattle.entries.specs.declared.Sheet.{Sheet}
 use Rattle.sheet.specs.declared.Reading.{Reading}
-use Rattle.sheet.specs.declared.Verdict.{Verdict}
-use Rattle.sheet.specs.declared.Verdict.TheVariants.{Sound, Refused}
+use Rattle.sheet.specs.declared.SheetFault.{SheetFault}
 
 -- the largest priority number
 abbrev pub top_priority : ℕ
@@ -50,7 +49,7 @@ place_check at reading kind = check 13 at (misplaced reading.begun kind)
 unfoldable pub record_checks : ℕ → ℕ → Reading → Record → List (Check Paper)
 record_checks at left reading Missing = check 11 at true ∷ []
 record_checks at left reading Unknown = check 12 at true ∷ []
-record_checks at left reading (Cut kind) = place_check at reading kind ∷ check 11 at true ∷ []
+record_checks at left reading (Cut kind) = place_check at reading (kind_number kind) ∷ check 11 at true ∷ []
 record_checks at left reading (Board cores tick) = place_check at reading board_kind ∷ board_checks at tick
 record_checks at left reading (Row fields) =
     place_check at reading row_kind ∷ row_record_checks at reading.sheet fields.priority
@@ -61,7 +60,15 @@ record_checks at left reading (End count) =
 abbrev pub own_checks : ℕ → Reading → Record → List (Check Paper)
 own_checks at reading found = record_checks at end_length reading found
 
+-- what is found at a record or in a whole sheet: nothing wrong, or a fault
+abbrev pub Verdict : Type 0
+Verdict = Result (Unit {0}) SheetFault
+
+-- a fault by its number and its byte place
+abbrev pub fault : (number place : ℕ) → SheetFault
+fault number place = record { number = number; place = place }
+
 -- the verdict of checks: the number and the place of the first one that fails
 unfoldable pub verdict_of : List (Check Paper) → Verdict
 verdict_of checks =
-    elim (first_failing checks) [ none ↦ Sound | some told ↦ Refused told.number told.place ]
+    elim (first_failing checks) [ none ↦ Ok tt | some told ↦ Err (fault told.number told.place) ]

@@ -1,17 +1,17 @@
 -- What the reader promises of every sheet, a type for each sentence. proofs/Promises.antt proves each.
-use Rattle.std.specs.Prelude.{ℕ, ◌≤◌, ◌<◌, ◌≡◌, ◌⊎◌, List, ◌++◌, map, length, take}
+use Rattle.std.specs.Prelude.{ℕ, ◌≤◌, ◌<◌, ◌≡◌, ◌⊎◌, List, ◌++◌, map, length, take, Ok, Err}
 use Rattle.laws.specs.Permuted.{Permuted}
 use Rattle.quantities.specs.Paper.{Paper, paper}
 use Rattle.quantities.specs.Table.{rows_of}
 use Rattle.quantities.specs.declared.Micros.{Micros}
 use Rattle.entries.specs.Entries.{row_in, entries_of, table_in, table_of, Rising}
+use Rattle.sheet.specs.Checks.{fault}
 use Rattle.sheet.specs.Reader.{no_sheet, refused, whole, unread, ended, first_sheet_of, read_of, verdict_paper}
 use Rattle.sheet.specs.Faults.{record_at, ReadTo, FirstFault, FaultAt}
 use Rattle.records.specs.Records.{cores_on, tick_on}
 use Rattle.sheet.specs.Whole.{entries_on, WholeSheet, bytes_of, MadeOf}
 use Rattle.records.specs.declared.Record.TheVariants.{Missing}
 use Rattle.sheet.specs.declared.Reading.{Reading}
-use Rattle.sheet.specs.declared.Verdict.TheVariants.{Sound, Refused}
 use Rattle.sheet.specs.declared.Outcome.{Outcome}
 
 -- A sheet is without fault exactly when it is a board record, rows in any order and an end record,
@@ -19,7 +19,7 @@ use Rattle.sheet.specs.declared.Outcome.{Outcome}
 abbrev pub WholeExactly : Type 0
 WholeExactly =
     (sheet : List ℕ)
-    → ((read_of sheet).verdict ≡ Sound → MadeOf sheet) × (MadeOf sheet → (read_of sheet).verdict ≡ Sound)
+    → ((read_of sheet).verdict ≡ Ok tt → MadeOf sheet) × (MadeOf sheet → (read_of sheet).verdict ≡ Ok tt)
 
 -- Four sentences about a reader of sheets; ours, `read_of`, keeps them. Its answer has the board's cores and tick
 -- length.
@@ -56,7 +56,7 @@ AnyOrder =
 abbrev pub NoTableRefused : Type 0
 NoTableRefused =
     (sheet : List ℕ) (number place : ℕ)
-    → (read_of sheet).verdict ≡ Refused number place → read_of sheet ≡ refused number place
+    → (read_of sheet).verdict ≡ Err (fault number place) → read_of sheet ≡ refused number place
 
 -- A sheet with a fault is turned away by its first one, with the number and the place of the failing check, and no
 -- table.
@@ -75,11 +75,11 @@ MissingAtTheEnd =
 abbrev pub RefusedByFirstFault : Type 0
 RefusedByFirstFault =
     (sheet : List ℕ) (number place : ℕ)
-    → (read_of sheet).verdict ≡ Refused number place → FaultAt sheet number place
+    → (read_of sheet).verdict ≡ Err (fault number place) → FaultAt sheet number place
 
 -- A sheet without fault is at most 550 bytes.
 abbrev pub AtMost550 : Type 0
-AtMost550 = (sheet : List ℕ) → (read_of sheet).verdict ≡ Sound → length sheet ≤ 550
+AtMost550 = (sheet : List ℕ) → (read_of sheet).verdict ≡ Ok tt → length sheet ≤ 550
 
 -- The answer depends on the first 1,024 bytes alone.
 abbrev pub First1024 : Type 0
@@ -92,7 +92,7 @@ OneOutcome = (sheet : List ℕ) (a b : Outcome) → a ≡ read_of sheet → b �
 -- The first sheet on some bytes: those up to its end are a whole sheet by themselves, with the same answer.
 abbrev pub FirstSheetIsWhole : Type 0
 FirstSheetIsWhole =
-    (bytes : List ℕ) → (first_sheet_of bytes).verdict ≡ Sound
+    (bytes : List ℕ) → (first_sheet_of bytes).verdict ≡ Ok tt
     → ((first_sheet_of bytes).end ≤ length bytes)
     × (read_of (take (first_sheet_of bytes).end bytes) ≡ whole (first_sheet_of bytes).sheet)
     × MadeOf (take (first_sheet_of bytes).end bytes)
@@ -100,19 +100,19 @@ FirstSheetIsWhole =
 -- And a whole sheet is the first one, with its own end, whatever stands behind it.
 abbrev pub WholeSheetIsFirst : Type 0
 WholeSheetIsFirst =
-    (sheet rest : List ℕ) → (read_of sheet).verdict ≡ Sound
+    (sheet rest : List ℕ) → (read_of sheet).verdict ≡ Ok tt
     → first_sheet_of (sheet ++ rest) ≡ ended (read_of sheet).sheet (length sheet)
 
 -- Where no first sheet is read, the bytes as one sheet are refused by the same number and place.
 abbrev pub FirstSheetRefused : Type 0
 FirstSheetRefused =
-    (bytes : List ℕ) (number place : ℕ) → (first_sheet_of bytes).verdict ≡ Refused number place
+    (bytes : List ℕ) (number place : ℕ) → (first_sheet_of bytes).verdict ≡ Err (fault number place)
     → (first_sheet_of bytes ≡ unread number place) × (read_of bytes ≡ refused number place)
 
 -- The bytes as one sheet are refused for nothing else but 18, at the end of the first sheet.
 abbrev pub RefusedBehindTheFirst : Type 0
 RefusedBehindTheFirst =
-    (bytes : List ℕ) (number place : ℕ) → (read_of bytes).verdict ≡ Refused number place
-    → ((first_sheet_of bytes).verdict ≡ Refused number place)
-    ⊎ (((first_sheet_of bytes).verdict ≡ Sound) × ((first_sheet_of bytes).end < length bytes)
+    (bytes : List ℕ) (number place : ℕ) → (read_of bytes).verdict ≡ Err (fault number place)
+    → ((first_sheet_of bytes).verdict ≡ Err (fault number place))
+    ⊎ (((first_sheet_of bytes).verdict ≡ Ok tt) × ((first_sheet_of bytes).end < length bytes)
     × (number ≡ 18) × (place ≡ (first_sheet_of bytes).end))

@@ -1,15 +1,13 @@
 -- What reading a sheet answers: its records as they stand, until one is refused or the end record is taken.
-use Rattle.std.specs.Prelude.{ℕ, zero, suc, ◌+◌, true, false, cond, List, ltb, length, drop}
+use Rattle.std.specs.Prelude.{ℕ, zero, suc, ◌+◌, true, false, cond, List, ltb, length, drop, Ok, Err}
 use Rattle.quantities.specs.Paper.{Paper, paper, no_refusal}
 use Rattle.records.specs.Records.{record_on, size_on, is_end}
 use Rattle.records.specs.declared.Record.{Record}
 use Rattle.records.specs.declared.Record.TheVariants.{Missing, Unknown, Cut, Board, Row, End}
 use Rattle.entries.specs.Entries.{board_sheet, with_entry}
-use Rattle.sheet.specs.Checks.{own_checks, verdict_of}
+use Rattle.sheet.specs.Checks.{own_checks, Verdict, fault, verdict_of}
 use Rattle.entries.specs.declared.Sheet.{Sheet}
 use Rattle.sheet.specs.declared.Reading.{Reading}
-use Rattle.sheet.specs.declared.Verdict.{Verdict}
-use Rattle.sheet.specs.declared.Verdict.TheVariants.{Sound, Refused}
 use Rattle.sheet.specs.declared.FirstSheet.{FirstSheet}
 use Rattle.sheet.specs.declared.Outcome.{Outcome}
 
@@ -36,19 +34,19 @@ after_record reading (Cut kind) = reading
 
 -- a refused sheet yields no table
 unfoldable pub refused : ℕ → ℕ → Outcome
-refused number place = record { verdict = Refused number place; sheet = no_sheet }
+refused number place = record { verdict = Err (fault number place); sheet = no_sheet }
 
 -- a sheet without fault
 unfoldable pub whole : Sheet → Outcome
-whole sheet = record { verdict = Sound; sheet = sheet }
+whole sheet = record { verdict = Ok tt; sheet = sheet }
 
 -- no sheet is read: the number and the place, and no end
 unfoldable pub unread : ℕ → ℕ → FirstSheet
-unread number place = record { verdict = Refused number place; sheet = no_sheet; end = 0 }
+unread number place = record { verdict = Err (fault number place); sheet = no_sheet; end = 0 }
 
 -- a sheet is read up to this place, behind its end record
 unfoldable pub ended : Sheet → ℕ → FirstSheet
-ended sheet end = record { verdict = Sound; sheet = sheet; end = end }
+ended sheet end = record { verdict = Ok tt; sheet = sheet; end = end }
 
 -- the first sheet on the bytes of a reading that stands at a place, with the part from there on, in at most this
 -- many records; each record takes a byte or more, so that a limit of more records than bytes is never met
@@ -57,8 +55,8 @@ first_from zero reading at part = unread 11 at
 first_from (suc limit) reading at part =
     let found = record_on part in
     elim (verdict_of (own_checks at reading found)) [
-      | Refused number place ↦ unread number place
-      | Sound ↦
+      | Err one ↦ unread one.number one.place
+      | Ok _ ↦
           elim (is_end found) [
             | true ↦ ended reading.sheet (at + size_on part)
             | false ↦ first_from limit (after_record reading found) (at + size_on part) (drop (size_on part) part)
@@ -73,8 +71,8 @@ first_sheet_of bytes = first_from (suc (length bytes)) new_reading 0 bytes
 unfoldable pub closed : ℕ → FirstSheet → Outcome
 closed long first =
     elim first.verdict [
-      | Refused number place ↦ refused number place
-      | Sound ↦ cond (ltb first.end long) (refused 18 first.end) (whole first.sheet)
+      | Err one ↦ refused one.number one.place
+      | Ok _ ↦ cond (ltb first.end long) (refused 18 first.end) (whole first.sheet)
     ]
 
 -- the answer of a sheet
@@ -83,5 +81,5 @@ read_of sheet = closed (length sheet) (first_sheet_of sheet)
 
 -- a verdict on paper
 unfoldable pub verdict_paper : Verdict → Paper
-verdict_paper Sound = no_refusal
-verdict_paper (Refused number place) = paper number place
+verdict_paper (Ok tt) = no_refusal
+verdict_paper (Err one) = paper one.number one.place

@@ -1,99 +1,87 @@
 //! The checks of a record, in the order of document 01.
-ghost use Rattle.std.specs.Prelude.{◌≡◌};
-ghost use Rattle.records.specs.Records.{end_length};
-ghost use Rattle.sheet.specs.Checks.{misplaced, board_checks, row_record_checks, end_checks};
+ghost use Rattle.std.specs.Prelude.{◌≡◌, [], ◌∷◌};
+ghost use Rattle.records.specs.Records.{end_length, kind_number};
+ghost use Rattle.sheet.specs.Checks.{place_check, board_checks, row_record_checks, end_checks};
 ghost use Rattle.sheet.specs.Checks.{own_checks, verdict_of};
 
-use crate::{Reading, Verdict};
+use crate::{Reading, SheetFault};
 use entries::Sheet;
 use quantities::{Micros, Table};
-use records::{BOARD_KIND, END_KIND, ROW_KIND, Record};
+use records::{Kind, Record};
 
 const TOP_PRIORITY: u32 = 999;
 
-// Whether a record of this kind stands where it must not: the first one that is no board, or a later board.
-fn is_misplaced(begun: bool, kind: u8) -> bool
-    ensures { result ≡ misplaced begun kind }
+// A record of this kind stands where it must not: the first one that is no board, or a later board.
+#[tactic(auto, unfolding(crate::specs::Checks::misplaced, crate::specs::Checks::verdict_of, laws::specs::Checks::first_failing))]
+fn check_place(reading: Reading, kind: Kind, place: usize) -> Result<(), SheetFault>
+    ensures { result ≡ verdict_of (place_check place reading (kind_number kind) ∷ []) }
 {
-    if begun {
-        return kind == BOARD_KIND;
+    if reading.begun == (kind == Kind::Board) {
+        return Err(SheetFault { number: 13, place });
     }
-    kind != BOARD_KIND
+    Ok(())
 }
 
-fn check_board(tick: Micros, at: usize) -> Verdict
-    ensures { result ≡ verdict_of (board_checks at tick) }
+#[tactic(auto, unfolding(crate::specs::Checks::board_checks, crate::specs::Checks::verdict_of, laws::specs::Checks::first_failing))]
+fn check_board(tick: Micros, place: usize) -> Result<(), SheetFault>
+    ensures { result ≡ verdict_of (board_checks place tick) }
 {
     if tick.0 == 0 {
-        return Verdict::Refused(19, at);
+        return Err(SheetFault { number: 19, place });
     }
-    Verdict::Sound
+    Ok(())
 }
 
 #[tactic(auto, unfolding(crate::specs::Checks::row_record_checks, crate::specs::Checks::verdict_of, laws::specs::Checks::first_failing))]
-fn check_row(sheet: Sheet, priority: u32, at: usize) -> Verdict
-    ensures { result ≡ verdict_of (row_record_checks at sheet priority) }
+fn check_row(sheet: Sheet, priority: u32, place: usize) -> Result<(), SheetFault>
+    ensures { result ≡ verdict_of (row_record_checks place sheet priority) }
 {
     if Table::ROW_CAPACITY <= sheet.count {
-        return Verdict::Refused(14, at);
+        return Err(SheetFault { number: 14, place });
     }
-    if priority == 0 {
-        return Verdict::Refused(16, at);
-    }
-    if TOP_PRIORITY < priority {
-        return Verdict::Refused(16, at);
+    if priority == 0 || TOP_PRIORITY < priority {
+        return Err(SheetFault { number: 16, place });
     }
     if sheet.is_used(priority) {
-        return Verdict::Refused(15, at);
+        return Err(SheetFault { number: 15, place });
     }
-    Verdict::Sound
+    Ok(())
 }
 
 // What stands behind the end record does not count here.
-fn check_end(sheet: Sheet, count: usize, at: usize) -> Verdict
-    ensures { result ≡ verdict_of (end_checks at end_length sheet count) }
+#[tactic(auto, unfolding(crate::specs::Checks::end_checks, crate::specs::Checks::verdict_of, laws::specs::Checks::first_failing))]
+fn check_end(sheet: Sheet, count: usize, place: usize) -> Result<(), SheetFault>
+    ensures { result ≡ verdict_of (end_checks place end_length sheet count) }
 {
     if count != sheet.count {
-        return Verdict::Refused(17, at);
+        return Err(SheetFault { number: 17, place });
     }
-    Verdict::Sound
+    Ok(())
 }
 
 // The checks of the record found at a place, by itself.
-pub fn check_record(reading: Reading, found: Record, at: usize) -> Verdict
-    ensures { result ≡ verdict_of (own_checks at reading found) }
+#[tactic(auto, using(crate::proofs::Checks::verdict_stops, crate::proofs::Checks::verdict_goes_on), unfolding(crate::specs::Checks::record_checks, crate::specs::Checks::verdict_of, laws::specs::Checks::first_failing))]
+pub fn check_record(reading: Reading, found: Record, place: usize) -> Result<(), SheetFault>
+    ensures { result ≡ verdict_of (own_checks place reading found) }
 {
-    let begun = reading.begun;
     match found {
-        Record::Missing => {
-            return Verdict::Refused(11, at);
-        }
-        Record::Unknown => {
-            return Verdict::Refused(12, at);
-        }
+        Record::Missing => Err(SheetFault { number: 11, place }),
+        Record::Unknown => Err(SheetFault { number: 12, place }),
         Record::Cut(kind) => {
-            if is_misplaced(begun, kind) {
-                return Verdict::Refused(13, at);
-            }
-            return Verdict::Refused(11, at);
+            check_place(reading, kind, place)?;
+            Err(SheetFault { number: 11, place })
         }
         Record::Board(_, tick) => {
-            if is_misplaced(begun, BOARD_KIND) {
-                return Verdict::Refused(13, at);
-            }
-            return check_board(tick, at);
+            check_place(reading, Kind::Board, place)?;
+            check_board(tick, place)
         }
         Record::Row(fields) => {
-            if is_misplaced(begun, ROW_KIND) {
-                return Verdict::Refused(13, at);
-            }
-            return check_row(reading.sheet, fields.priority, at);
+            check_place(reading, Kind::Row, place)?;
+            check_row(reading.sheet, fields.priority, place)
         }
         Record::End(count) => {
-            if is_misplaced(begun, END_KIND) {
-                return Verdict::Refused(13, at);
-            }
-            return check_end(reading.sheet, count, at);
+            check_place(reading, Kind::End, place)?;
+            check_end(reading.sheet, count, place)
         }
     }
 }

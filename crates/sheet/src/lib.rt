@@ -2,7 +2,7 @@
 #![tactic(auto)]
 
 ghost use Rattle.std.specs.Prelude.{◌≡◌};
-ghost use Rattle.sheet.specs.Reader.{new_reading, after_record, refused, unread, first_sheet_of, read_of};
+ghost use Rattle.sheet.specs.Reader.{no_sheet, new_reading, after_record, refused, unread, first_sheet_of, read_of};
 
 use entries::Sheet;
 use judge::check_record;
@@ -12,23 +12,24 @@ use records::{Record, is_end, record_on, size_on};
 mod judge;
 
 // How far a sheet has been read: whether its board record was, and what the records so far gave.
+// Kept: a flag with a sheet beside it, since `record_checks` tells of the checks behind 13 also where no board was read.
 #[derive(Clone, Copy)]
 pub struct Reading {
     pub begun: bool,
     pub sheet: Sheet,
 }
 
-// What is found at a record or in a whole sheet: nothing wrong, or document 01's number with its byte place.
-#[derive(Clone, Copy)]
-pub enum Verdict {
-    Sound,
-    Refused(u32, usize),
+// What is wrong at a record or in a whole sheet: document 01's number with its byte place.
+#[derive(Clone, Copy, Debug, PartialEq, Eq, PartialOrd, Ord, Hash)]
+pub struct SheetFault {
+    pub number: u32,
+    pub place: usize,
 }
 
 // The first sheet that stands on some bytes and the place behind its end record, or a refusal with the empty sheet.
 #[derive(Clone, Copy)]
 pub struct FirstSheet {
-    pub verdict: Verdict,
+    pub verdict: Result<(), SheetFault>,
     pub sheet: Sheet,
     pub end: usize,
 }
@@ -36,63 +37,62 @@ pub struct FirstSheet {
 // The reader's answer. A refused sheet yields no table: its sheet is the empty one.
 #[derive(Clone, Copy)]
 pub struct Outcome {
-    pub verdict: Verdict,
+    pub verdict: Result<(), SheetFault>,
     pub sheet: Sheet,
 }
 
+#[tactic(auto, unfolding(crate::specs::Reader::no_sheet))]
+fn no_sheet() -> Sheet
+    ensures { result ≡ no_sheet }
+{
+    Sheet::of_board(0, Micros(0))
+}
+
+#[tactic(auto, unfolding(crate::specs::Reader::new_reading))]
 fn new_reading() -> Reading
     ensures { result ≡ new_reading }
 {
-    let sheet = Sheet::of_board(0, Micros(0));
     Reading {
         begun: false,
-        sheet: sheet,
+        sheet: no_sheet(),
     }
 }
 
-fn refuse(number: u32, place: usize) -> Outcome
-    ensures { result ≡ refused number place }
+#[tactic(auto, unfolding(crate::specs::Reader::refused))]
+fn refuse(fault: SheetFault) -> Outcome
+    ensures { result ≡ refused fault.number fault.place }
 {
-    let sheet = Sheet::of_board(0, Micros(0));
     Outcome {
-        verdict: Verdict::Refused(number, place),
-        sheet: sheet,
+        verdict: Err(fault),
+        sheet: no_sheet(),
     }
 }
 
 // The reading after a record that nothing is wrong with.
+#[tactic(auto, unfolding(crate::specs::Reader::after_record))]
 fn after_record(reading: Reading, found: Record) -> Reading
     ensures { result ≡ after_record reading found }
 {
     match found {
-        Record::Board(cores, tick) => {
-            let sheet = Sheet::of_board(cores, tick);
-            return Reading {
-                begun: true,
-                sheet: sheet,
-            };
-        }
-        Record::Row(fields) => {
-            let old = reading.sheet;
-            let sheet = old.with_entry(fields);
-            return Reading {
-                begun: reading.begun,
-                sheet: sheet,
-            };
-        }
-        _ => {
-            return reading;
-        }
+        Record::Board(cores, tick) => Reading {
+            begun: true,
+            sheet: Sheet::of_board(cores, tick),
+        },
+        Record::Row(fields) => Reading {
+            begun: reading.begun,
+            sheet: reading.sheet.with_entry(fields),
+        },
+        Record::Missing | Record::Unknown | Record::Cut(_) | Record::End(_) => reading,
     }
 }
 
-fn no_first(number: u32, place: usize) -> FirstSheet
-    ensures { result ≡ unread number place }
+#[tactic(auto, unfolding(crate::specs::Reader::unread))]
+fn no_first(fault: SheetFault) -> FirstSheet
+    ensures { result ≡ unread fault.number fault.place }
 {
-    let sheet = Sheet::of_board(0, Micros(0));
     FirstSheet {
-        verdict: Verdict::Refused(number, place),
-        sheet: sheet,
+        verdict: Err(fault),
+        sheet: no_sheet(),
         end: 0,
     }
 }
@@ -102,23 +102,18 @@ pub fn read_first(bytes: &[u8]) -> FirstSheet
     ensures { result ≡ first_sheet_of bytes.now }
 {
     let mut reading = new_reading();
-    let mut at: usize = 0;
+    let mut at = 0;
     loop {
         let part = &bytes[at..];
         let found = record_on(part);
-        let verdict = check_record(reading, found, at);
-        match verdict {
-            Verdict::Refused(number, place) => {
-                return no_first(number, place);
-            }
-            Verdict::Sound => {}
+        if let Err(fault) = check_record(reading, found, at) {
+            return no_first(fault);
         }
         let next = at + size_on(part);
         if is_end(found) {
-            let whole = reading.sheet;
             return FirstSheet {
-                verdict: Verdict::Sound,
-                sheet: whole,
+                verdict: Ok(()),
+                sheet: reading.sheet,
                 end: next,
             };
         }
@@ -132,20 +127,17 @@ pub fn read(sheet: &[u8]) -> Outcome
     ensures { result ≡ read_of sheet.now }
 {
     let first = read_first(sheet);
-    let verdict = first.verdict;
-    match verdict {
-        Verdict::Refused(number, place) => {
-            return refuse(number, place);
-        }
-        Verdict::Sound => {}
+    if let Err(fault) = first.verdict {
+        return refuse(fault);
     }
-    let end = first.end;
-    if end < sheet.len() {
-        return refuse(18, end);
+    if first.end < sheet.len() {
+        return refuse(SheetFault {
+            number: 18,
+            place: first.end,
+        });
     }
-    let whole = first.sheet;
     Outcome {
-        verdict: Verdict::Sound,
-        sheet: whole,
+        verdict: Ok(()),
+        sheet: first.sheet,
     }
 }

@@ -3,7 +3,7 @@
 
 use entries::Sheet;
 use quantities::{Table, Ticks};
-use sheet::{Outcome, Verdict};
+use sheet::Outcome;
 use std::io;
 use std::io::Stdout;
 
@@ -64,15 +64,9 @@ fn print_sheet(out: Stdout, sheet: Sheet) -> io::Result<()> {
 }
 
 fn print_outcome(out: Stdout, outcome: Outcome) -> io::Result<()> {
-    let verdict = outcome.verdict;
-    match verdict {
-        Verdict::Refused(number, place) => {
-            print!(out; "refused")?;
-            print_number(out, wide(number))?;
-            print_number(out, long(place))?;
-            end_line(out)
-        }
-        Verdict::Sound => print_sheet(out, outcome.sheet),
+    match outcome.verdict {
+        Err(fault) => println!(out; "refused {} {}", fault.number, fault.place),
+        Ok(()) => print_sheet(out, outcome.sheet),
     }
 }
 

@@ -29,7 +29,8 @@ use Rattle.records.specs.declared.RowFields.{RowFields}
 use Rattle.entries.specs.declared.Sheet.{Sheet}
 use Rattle.sheet.specs.declared.Outcome.{Outcome}
 use Rattle.sheet.proofs.Checks.{sound_not_refused}
-use Rattle.sheet.proofs.Faults.{verdict_none, verdict_first, same_refusal}
+use Rattle.sheet.proofs.Checks.{same_refusal}
+use Rattle.sheet.proofs.Faults.{verdict_none, verdict_first}
 use Rattle.sheet.proofs.Reader.{reads_new, turn_refused, turn_whole}
 use Rattle.entries.proofs.Order.{rising_permuted}
 use Rattle.entries.proofs.Sheets.{entries_of_sheet}

@@ -15,17 +15,17 @@ use Rattle.quantities.specs.Paper.{Paper}
 use Rattle.quantities.specs.Checks.{check}
 use Rattle.quantities.specs.declared.Micros.{Micros}
 use Rattle.records.specs.Bytes.{field}
-use Rattle.records.specs.Records.{record_length, cores_on, tick_on, count_on, row_fields, record_on}
+use Rattle.records.specs.Records.{record_length, kind_number, kind_of, cores_on, tick_on, count_on, row_fields, record_on}
 use Rattle.records.specs.declared.Record.{Record}
 use Rattle.records.specs.declared.Record.TheVariants.{Cut}
 use Rattle.records.proofs.Bytes.{field_one, field_two, field_four}
-use Rattle.records.proofs.Records.{Found, nothing, unknown, cut, board, row, end, found, row_kind_lem, row_length_lem}
+use Rattle.records.proofs.Records.{Found, nothing, unknown, cut, board, row, end, found, row_kind_lem, row_length_lem, number_of_kind}
 use Rattle.entries.specs.Entries.{used, sheet_of}
-use Rattle.sheet.specs.Checks.{misplaced, board_checks, row_record_checks, end_checks, record_checks, verdict_of}
+use Rattle.sheet.specs.Checks.{misplaced, board_checks, row_record_checks, end_checks, record_checks, fault, verdict_of}
 use Rattle.sheet.specs.Reader.{new_reading}
 use Rattle.records.specs.declared.RowFields.{RowFields}
 use Rattle.sheet.specs.declared.Reading.{Reading}
-use Rattle.sheet.specs.declared.Verdict.TheVariants.{Refused}
+use Rattle.std.specs.Prelude.{Err}
 use Rattle.sheet.proofs.Checks.{
   verdict_fails,
   verdict_passes,
@@ -91,7 +91,7 @@ known kind = eqb kind 1 || eqb kind 2 || eqb kind 3
 
 -- The checks that each record begins with, by the first that fails; else those behind them decide.
 module _ (sheet : List ℕ) (at : ℕ) (wrong : Bool) (rest : List (Check Paper)) where
-  no_byte : length sheet ≤ at → verdict_of (common_order sheet at wrong ++ rest) ≡ Refused 11 (length sheet)
+  no_byte : length sheet ≤ at → verdict_of (common_order sheet at wrong ++ rest) ≡ Err (fault 11 (length sheet))
   no_byte h = verdict_fails 11 (length sheet) _ _ (le-leb (length sheet) at h)
 
   module _ (some : at < length sheet) where
@@ -99,7 +99,7 @@ module _ (sheet : List ℕ) (at : ℕ) (wrong : Bool) (rest : List (Check Paper)
         → verdict_of (check 11 (length sheet) (leb (length sheet) at) ∷ later) ≡ verdict_of later
     some_byte later = verdict_passes 11 (length sheet) _ later (lt-leb (length sheet) at some)
 
-    no_kind : known (byte sheet at) ≡ false → verdict_of (common_order sheet at wrong ++ rest) ≡ Refused 12 at
+    no_kind : known (byte sheet at) ≡ false → verdict_of (common_order sheet at wrong ++ rest) ≡ Err (fault 12 at)
     no_kind e = some_byte _ ∙ verdict_fails 12 at _ _ (ap not e)
 
     module _ (is : known (byte sheet at) ≡ true) where
@@ -107,11 +107,11 @@ module _ (sheet : List ℕ) (at : ℕ) (wrong : Bool) (rest : List (Check Paper)
           → verdict_of (check 12 at (not (known (byte sheet at))) ∷ later) ≡ verdict_of later
       a_kind later = verdict_passes 12 at _ later (ap not is)
 
-      out_of_place : wrong ≡ true → verdict_of (common_order sheet at wrong ++ rest) ≡ Refused 13 at
+      out_of_place : wrong ≡ true → verdict_of (common_order sheet at wrong ++ rest) ≡ Err (fault 13 at)
       out_of_place e = some_byte _ ∙ a_kind _ ∙ verdict_fails 13 at _ _ e
 
       cut_short : wrong ≡ false → length sheet < at + 1 + body_length (byte sheet at)
-          → verdict_of (common_order sheet at wrong ++ rest) ≡ Refused 11 at
+          → verdict_of (common_order sheet at wrong ++ rest) ≡ Err (fault 11 at)
       cut_short e h =
           some_byte _ ∙ a_kind _ ∙ verdict_passes 13 at _ _ e
           ∙ verdict_fails 11 at _ _ (lt-ltb (length sheet) (at + 1 + body_length (byte sheet at)) h)
@@ -137,11 +137,13 @@ unknown_kind kind = go (eqb kind 1) (eqb kind 2) (eqb kind 3)
 record OfLength (kind : ℕ) : Type 0 where
   is : known kind ≡ true
   takes : record_length kind ≡ 1 + body_length kind
+  numbered : kind_number (kind_of kind) ≡ kind
 
 of_length : (kind : ℕ) → 0 < record_length kind → OfLength kind
 unfolding record_length
 of_length kind some =
-    let both = go (eqb kind 1) (eqb kind 2) (eqb kind 3) some in record { is = both.0; takes = both.1 }
+    let both = go (eqb kind 1) (eqb kind 2) (eqb kind 3) some in
+    record { is = both.0; takes = both.1; numbered = number_of_kind kind some }
   where
     go : (a b c : Bool) → 0 < cond a 4 (cond b 17 (cond c 2 0))
         → ((a || b || c) ≡ true)
@@ -155,7 +157,7 @@ of_length kind some =
 cut_verdict : (sheet : List ℕ) (at left : ℕ) (reading : Reading) (wrong : Bool) (rest : List (Check Paper))
     → at < length sheet → length sheet < at + record_length (byte sheet at) → misplaced reading.begun (byte sheet at) ≡ wrong
     → verdict_of (common_order sheet at wrong ++ rest)
-    ≡ verdict_of (record_checks at left reading (Cut (byte sheet at)))
+    ≡ verdict_of (record_checks at left reading (Cut (kind_of (byte sheet at))))
 cut_verdict sheet at left reading wrong rest some short = go wrong
   where
     kind : OfLength (byte sheet at)
@@ -163,13 +165,13 @@ cut_verdict sheet at left reading wrong rest some short = go wrong
 
     go : (b : Bool) → misplaced reading.begun (byte sheet at) ≡ b
         → verdict_of (common_order sheet at b ++ rest)
-        ≡ verdict_of (record_checks at left reading (Cut (byte sheet at)))
+        ≡ verdict_of (record_checks at left reading (Cut (kind_of (byte sheet at))))
     go true e =
         out_of_place sheet at true rest some kind.is refl
-        ∙ sym (cut_misplaced at left reading (byte sheet at) e)
+        ∙ sym (cut_misplaced at left reading (kind_of (byte sheet at)) (rw kind.numbered e))
     go false e =
         cut_short sheet at false rest some kind.is refl (omega (arith, kind.takes))
-        ∙ sym (cut_placed at left reading (byte sheet at) e)
+        ∙ sym (cut_placed at left reading (kind_of (byte sheet at)) (rw kind.numbered e))
 
 -- The board record.
 module _ (sheet : List ℕ) where
@@ -193,7 +195,7 @@ module _ (sheet : List ℕ) where
           → verdict_of (board_order sheet) ≡ verdict_of (record_checks 0 (length sheet) new_reading one)
       go one (nothing none) =
           no_byte sheet 0 wrong rest (omega arith)
-          ∙ ap (Refused 11) none
+          ∙ ap (λ (place : ℕ). Err (fault 11 place)) none
           ∙ sym (verdict_missing 0 (length sheet) new_reading)
       go one (unknown some none) =
           no_kind sheet 0 wrong rest some (unknown_kind (byte sheet 0) none)
@@ -283,7 +285,7 @@ module _ (sheet : List ℕ) (n cores : ℕ) (tick : Micros) (entries : List RowF
           → verdict_of (later_order sheet n) ≡ verdict_of (record_checks (behind n) (length part) reading one)
       go one (nothing none) =
           no_byte sheet (behind n) wrong rest (omega (arith, long_part))
-          ∙ ap (Refused 11) (omega (arith, long_part))
+          ∙ ap (λ (place : ℕ). Err (fault 11 place)) (omega (arith, long_part))
           ∙ sym (verdict_missing (behind n) (length part) reading)
       go one (unknown some none) =
           no_kind sheet (behind n) wrong rest (omega (arith, long_part))

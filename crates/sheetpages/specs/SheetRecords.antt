@@ -1,11 +1,12 @@
 -- The records of an order sheet written in bytes: each comes back as it was; the limits of what is taken.
-use Rattle.std.specs.Prelude.{ℕ, zero, suc, ◌+◌, ◌/◌, ◌%◌, ◌≤◌, ◌<◌, ◌≡◌, true, false, List, [], ◌∷◌, ◌++◌, length}
+use Rattle.std.specs.Prelude.{ℕ, zero, suc, ◌+◌, ◌/◌, ◌%◌, ◌≤◌, ◌<◌, ◌≡◌, true, false, List, [], ◌∷◌, ◌++◌, length, Ok}
 use Rattle.laws.specs.Each.{Each}
 use Rattle.records.specs.Records.{record_on, size_on, is_end}
+use Rattle.records.specs.declared.Kind.{Kind}
+use Rattle.records.specs.declared.Kind.TheVariants as kinds
 use Rattle.records.specs.declared.RowFields.{RowFields}
 use Rattle.records.specs.declared.Record.TheVariants.{Missing, Unknown, Cut, Board, Row, End}
 use Rattle.sheet.specs.Reader.{read_of}
-use Rattle.sheet.specs.declared.Verdict.TheVariants.{Sound}
 use Rattle.sheetpages.specs.Sheets.{byte, RowsPass, WholeWith, TurnedAway}
 
 -- Numbers are unsigned, most significant byte first.
@@ -68,9 +69,9 @@ pub record PartsTold : Type 0 where
   pub no_byte : record_on [] ≡ Missing
   pub unknown : (kind : ℕ) (rest : List ℕ) → (kind ≡ 1 → ⊥) → (kind ≡ 2 → ⊥) → (kind ≡ 3 → ⊥)
       → record_on (kind ∷ rest) ≡ Unknown
-  pub cut_board : (rest : List ℕ) → length rest < 3 → record_on (1 ∷ rest) ≡ Cut 1
-  pub cut_row : (rest : List ℕ) → length rest < 16 → record_on (2 ∷ rest) ≡ Cut 2
-  pub cut_end : record_on (3 ∷ []) ≡ Cut 3
+  pub cut_board : (rest : List ℕ) → length rest < 3 → record_on (1 ∷ rest) ≡ Cut kinds.Board
+  pub cut_row : (rest : List ℕ) → length rest < 16 → record_on (2 ∷ rest) ≡ Cut kinds.Row
+  pub cut_end : record_on (3 ∷ []) ≡ Cut kinds.End
   pub size_of_board : (rest : List ℕ) → size_on (1 ∷ rest) ≡ 4
   pub size_of_row : (rest : List ℕ) → size_on (2 ∷ rest) ≡ 17
   pub size_of_end : (rest : List ℕ) → size_on (3 ∷ rest) ≡ 2
@@ -78,7 +79,7 @@ pub record PartsTold : Type 0 where
   pub size_of_unknown : (kind : ℕ) (rest : List ℕ) → (kind ≡ 1 → ⊥) → (kind ≡ 2 → ⊥) → (kind ≡ 3 → ⊥)
       → size_on (kind ∷ rest) ≡ 0
   pub the_end : (count : ℕ) → is_end (End count) ≡ true
-  pub no_end : (fields : RowFields) (cores tick kind : ℕ)
+  pub no_end : (fields : RowFields) (cores tick : ℕ) (kind : Kind)
       → (is_end (Row fields) ≡ false)
       × (is_end (Board cores (record { 0 = tick })) ≡ false)
       × (is_end (Cut kind) ≡ false)
@@ -94,7 +95,7 @@ one_row cores tick label priority c d t =
 pub record PrioritiesTo999 : Type 0 where
   pub taken : (cores tick label priority c d t : ℕ) → BoardFits cores tick → RowFits label priority c d t
       → 0 < tick → 1 ≤ priority → priority ≤ 999
-      → (read_of (one_row cores tick label priority c d t)).verdict ≡ Sound
+      → (read_of (one_row cores tick label priority c d t)).verdict ≡ Ok tt
   pub above : (cores tick label priority c d t : ℕ) → BoardFits cores tick → RowFits label priority c d t
       → 0 < tick → 1000 ≤ priority
       → TurnedAway 16 4 (read_of (one_row cores tick label priority c d t))

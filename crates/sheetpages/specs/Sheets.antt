@@ -1,5 +1,5 @@
 -- The order sheet in bytes: which sheets are taken, which number and place turn one away, and what is read.
-use Rattle.std.specs.Prelude.{ℕ, zero, suc, ◌+◌, ◌-◌, ◌*◌, ◌≤◌, ◌<◌, ◌≡◌, ◌⊎◌, Bool, false, not, cond, ◌||◌, List, [], ◌∷◌, ◌++◌, eqb, leb, ltb, length, get_or, take, drop, replicate}
+use Rattle.std.specs.Prelude.{ℕ, zero, suc, ◌+◌, ◌-◌, ◌*◌, ◌≤◌, ◌<◌, ◌≡◌, ◌⊎◌, Bool, false, not, cond, ◌||◌, List, [], ◌∷◌, ◌++◌, eqb, leb, ltb, length, get_or, take, drop, replicate, Ok, Err}
 use Rattle.laws.specs.Each.{Each}
 use Rattle.laws.specs.Permuted.{Permuted}
 use Rattle.laws.specs.Checks.{Check, FirstFailing}
@@ -11,7 +11,6 @@ use Rattle.entries.specs.Entries.{entries_of, table_of}
 use Rattle.sheet.specs.Reader.{read_of, verdict_paper}
 use Rattle.records.specs.declared.RowFields.{RowFields}
 use Rattle.entries.specs.declared.Sheet.{Sheet}
-use Rattle.sheet.specs.declared.Verdict.TheVariants.{Sound, Refused}
 use Rattle.sheet.specs.declared.Outcome.{Outcome}
 
 -- Byte places count from 0. Numbers are unsigned, most significant byte first.
@@ -128,7 +127,7 @@ blank_sheet = record { cores = 0; tick = record { 0 = 0 }; count = 0; entries = 
 
 -- A sheet is turned away with a number and a place. A refused sheet yields no table.
 pub record TurnedAway (number place : ℕ) (outcome : Outcome) : Type 0 where
-  pub answers : outcome.verdict ≡ Refused number place
+  pub answers : outcome.verdict ≡ Err (record { number = number; place = place })
   pub on_paper : verdict_paper outcome.verdict ≡ paper number place
   pub no_sheet_holds : outcome.sheet ≡ blank_sheet
   pub no_entries : entries_of outcome.sheet ≡ []
@@ -142,7 +141,7 @@ SheetTurnedAway =
 
 -- A sheet without fault is taken.
 abbrev pub SheetTaken : Type 0
-SheetTaken = (sheet : List ℕ) (n : ℕ) → WholeWith sheet n → (read_of sheet).verdict ≡ Sound
+SheetTaken = (sheet : List ℕ) (n : ℕ) → WholeWith sheet n → (read_of sheet).verdict ≡ Ok tt
 
 -- A sheet without fault is a board record, rows, an end record and nothing more: at most 550 bytes.
 abbrev pub WholeLength : Type 0
@@ -151,11 +150,11 @@ WholeLength =
 
 -- A sheet that is taken is without fault; one that is refused has a first fault of that number and place.
 abbrev pub TakenSheetIsWhole : Type 0
-TakenSheetIsWhole = (sheet : List ℕ) → (read_of sheet).verdict ≡ Sound → (n : ℕ) × WholeWith sheet n
+TakenSheetIsWhole = (sheet : List ℕ) → (read_of sheet).verdict ≡ Ok tt → (n : ℕ) × WholeWith sheet n
 
 abbrev pub RefusedSheetHasFault : Type 0
 RefusedSheetHasFault =
-    (sheet : List ℕ) (number place : ℕ) → (read_of sheet).verdict ≡ Refused number place
+    (sheet : List ℕ) (number place : ℕ) → (read_of sheet).verdict ≡ Err (record { number = number; place = place })
     → (one : Paper) × FirstFault sheet one × (one.number ≡ number) × (one.place ≡ place)
 
 -- Every sheet is without fault, or it has a first one.
@@ -225,7 +224,7 @@ pub record SheetRead (sheet : List ℕ) (n : ℕ) (answer : Sheet) : Type 0 wher
 abbrev pub SheetsRead : (List ℕ → Outcome) → Type 0
 SheetsRead read =
     (sheet : List ℕ) (n : ℕ) → WholeWith sheet n
-    → ((read sheet).verdict ≡ Sound) × SheetRead sheet n (read sheet).sheet
+    → ((read sheet).verdict ≡ Ok tt) × SheetRead sheet n (read sheet).sheet
 
 -- That leaves one answer.
 abbrev pub OneReading : Type 0

@@ -29,8 +29,9 @@ use Rattle.sheet.specs.Reader.{read_of}
 use Rattle.sheet.proofs.Promises.{first_1024}
 use Rattle.entries.specs.declared.Sheet.{Sheet}
 use Rattle.sheet.specs.declared.Outcome.{Outcome}
-use Rattle.sheet.specs.declared.Verdict.{Verdict}
-use Rattle.sheet.specs.declared.Verdict.TheVariants.{Sound, Refused as Unread}
+use Rattle.std.specs.Prelude.{Ok, Err}
+use Rattle.sheet.specs.declared.SheetFault.{SheetFault}
+use Rattle.sheet.specs.Checks.{Verdict}
 use Rattle.lines.specs.Lines.{shown_line, not_shown_line, refused_line}
 use Rattle.lines.proofs.Lines.{lines_in_array}
 use Rattle.text.specs.Text.{lines_up_to, bound_lines, label_at, paper_line, judged_text, sheet_text, outcome_text, text_of}
@@ -123,11 +124,11 @@ module _ (sheet : Sheet) (table : Table) (analysis : Analysis) (a : Analysed she
 
 -- the text by the reader's answer
 module _ (bytes : List ℕ) (outcome : Outcome) (reads : outcome ≡ read_of bytes) where
-  pub text_unread : (number place : ℕ) → outcome.verdict ≡ Unread number place → text_of bytes ≡ refused_line number place
+  pub text_unread : (fault : SheetFault) → outcome.verdict ≡ Err fault → text_of bytes ≡ refused_line fault.number fault.place
   unfolding text_of outcome_text
-  text_unread number place e = ap outcome_text (sym reads) ∙ rw (e, outcome_text) refl
+  text_unread fault e = ap outcome_text (sym reads) ∙ rw (e, outcome_text) refl
 
-  pub text_read : outcome.verdict ≡ Sound → text_of bytes ≡ sheet_text outcome.sheet
+  pub text_read : outcome.verdict ≡ Ok tt → text_of bytes ≡ sheet_text outcome.sheet
   unfolding text_of outcome_text
   text_read e = ap outcome_text (sym reads) ∙ rw (e, outcome_text) refl
 
@@ -155,5 +156,5 @@ unfolding text_of outcome_text sheet_text
 text_some bytes = go (read_of bytes).verdict refl
   where
     go : (verdict : Verdict) → (read_of bytes).verdict ≡ verdict → 0 < length (outcome_text (read_of bytes))
-    go (Unread number place) e = rw (e, outcome_text) (refused_some number place)
-    go Sound e = rw (e, outcome_text) (judged_some (read_of bytes).sheet _ _)
+    go (Err fault) e = rw (e, outcome_text) (refused_some fault.number fault.place)
+    go (Ok _) e = rw (e, outcome_text) (judged_some (read_of bytes).sheet _ _)

@@ -1,5 +1,5 @@
 -- The text that the program prints for a sheet: its answer by the definitions, in the lines of document 01.
-use Rattle.std.specs.Prelude.{ℕ, ◌-◌, List, ◌++◌, length, get_or}
+use Rattle.std.specs.Prelude.{ℕ, ◌-◌, List, ◌++◌, length, get_or, Ok, Err}
 use Rattle.quantities.specs.Table.{rows_of}
 use Rattle.quantities.specs.declared.Row.{Row}
 use Rattle.quantities.specs.Paper.{Paper, fault_paper}
@@ -9,7 +9,6 @@ use Rattle.entries.specs.Entries.{no_entry, table_of}
 use Rattle.sheet.specs.Reader.{read_of}
 use Rattle.entries.specs.declared.Sheet.{Sheet}
 use Rattle.sheet.specs.declared.Outcome.{Outcome}
-use Rattle.sheet.specs.declared.Verdict.TheVariants.{Sound, Refused as Unread}
 use Rattle.lines.specs.Lines.{first_line, row_lines, shown_line, not_shown_line, refused_line}
 
 -- the first line of a sheet with this many rows, and the lines of the first k of them
@@ -47,8 +46,8 @@ sheet_text sheet = judged_text sheet (rows_of (table_of sheet)) (judged sheet.co
 unfoldable pub outcome_text : Outcome → List ℕ
 outcome_text outcome =
     elim outcome.verdict [
-      | Unread number place ↦ refused_line number place
-      | Sound ↦ sheet_text outcome.sheet
+      | Err fault ↦ refused_line fault.number fault.place
+      | Ok _ ↦ sheet_text outcome.sheet
     ]
 
 -- the text that the program prints for the bytes of a sheet

@@ -14,7 +14,6 @@ use analysis::analyse;
 use entries::Sheet;
 use lines::{put_first_line, put_not_shown_line, put_refused_line, put_row_lines, put_shown_line};
 use quantities::{Fault, Table, Ticks};
-use sheet::Verdict;
 use windows::Answer;
 
 // Room enough for every text: 34 lines, none longer than 84 bytes.
@@ -83,10 +82,8 @@ pub fn print_answer(sheet: &[u8], out: &mut [u8]) -> usize
         return 0;
     }
     let outcome = sheet::read(sheet);
-    let verdict = outcome.verdict;
-    let whole = outcome.sheet;
-    match verdict {
-        Verdict::Refused(number, place) => put_refused_line(out, 0, number, place),
-        Verdict::Sound => put_sheet(out, whole),
+    match outcome.verdict {
+        Err(fault) => put_refused_line(out, 0, fault.number, fault.place),
+        Ok(()) => put_sheet(out, outcome.sheet),
     }
 }

@@ -4,8 +4,8 @@ use lib.ListN.{length}
 use Rattle.sheet.proofs.Reader.{Reads}
 use Rattle.sheet.proofs.read_first.Given as goal
 
-abbrev pub invariant-loop-number : goal.invariant-loop-number
-invariant-loop-number l = Reads l.bytes l.reading l.at
+abbrev pub invariant-loop-fault : goal.invariant-loop-fault
+invariant-loop-fault l = Reads l.bytes l.reading l.at
 
-abbrev pub decreases-loop-number : goal.decreases-loop-number
-decreases-loop-number l = length l.bytes - l.at
+abbrev pub decreases-loop-fault : goal.decreases-loop-fault
+decreases-loop-fault l = length l.bytes - l.at

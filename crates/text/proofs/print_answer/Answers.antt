@@ -8,14 +8,14 @@ pub returns-then-out-lt-TEXT_ROOM : goal.returns-then-out-lt-TEXT_ROOM
 returns-then-out-lt-TEXT_ROOM c =
     printed_nothing c.args.sheet.now c.args.out.now (omega arith)
 
-pub returns-in-Refused : goal.returns-in-Refused
-returns-in-Refused c =
-    let text = text_unread c.args.sheet.now c.read-outcome.result c.read-outcome.ensures _ _ c.in-Refused.is in
+pub returns-in-Err : goal.returns-in-Err
+returns-in-Err c =
+    let text = text_unread c.args.sheet.now c.read-outcome.result c.read-outcome.ensures _ c.in-Err.is in
     let line = c.put_refused_line.ensures in
     printed c.args.sheet.now c.args.out.now _ _ c.if-out-lt-TEXT_ROOM.false (rw text line.puts) (rw text (omega (arith, line.place_len_bound)))
 
-pub returns-in-Sound : goal.returns-in-Sound
-returns-in-Sound c =
-    let text = text_read c.args.sheet.now c.read-outcome.result c.read-outcome.ensures c.in-Sound.is in
+pub returns-in-Ok : goal.returns-in-Ok
+returns-in-Ok c =
+    let text = text_read c.args.sheet.now c.read-outcome.result c.read-outcome.ensures c.in-Ok.is in
     let put = c.put_sheet.ensures in
     printed c.args.sheet.now c.args.out.now _ _ c.if-out-lt-TEXT_ROOM.false (rw text put.puts) (rw text put.sheet_len_bound)
