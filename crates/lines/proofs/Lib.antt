@@ -1,3 +1,2 @@
 -- Laws of the lines.
 pub mod Lines
-mod RowLines

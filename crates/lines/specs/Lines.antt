@@ -5,6 +5,8 @@ use Rattle.quantities.specs.Row.{deadline}
 use Rattle.quantities.specs.declared.Micros.{Micros}
 use Rattle.records.specs.declared.RowFields.{RowFields}
 use Rattle.entries.specs.Entries.{row_in, no_entry}
+use Rattle.lines.specs.declared.Line.{Line}
+use Rattle.lines.specs.declared.Line.TheVariants.{First, Row, Shown, NotShown, Refused}
 use Rattle.printing.specs.Words.{ascii}
 use Rattle.printing.specs.Decimal.{decimal}
 
@@ -39,6 +41,14 @@ not_shown_line place label = worded "not shown " place ++ worded " " label ++ as
 -- a sheet or a list that is turned away
 unfoldable pub refused_line : (number place : ℕ) → List ℕ
 refused_line number place = worded "refused " number ++ worded " " place ++ ascii "\n"
+
+-- the text of a line
+unfoldable pub line_text : Line → List ℕ
+line_text (First cores tick rows) = first_line cores tick.0 rows
+line_text (Row place label bound d) = row_line place label bound.0 d.0
+line_text Shown = shown_line
+line_text (NotShown place label) = not_shown_line place label
+line_text (Refused number place) = refused_line number place
 
 -- no line is longer: four numbers, each with a space or the line end
 abbrev pub line_room : ℕ

@@ -1,11 +1,12 @@
--- Laws of decimal digits: the two equations, how many there are, and the number that they give back.
+-- Laws of decimal digits: the two equations, the library's digits, how many there are, and the number that they give back.
 use Prim.Native.Nat.{ℕ, zero, suc, ◌+◌, ◌-◌, ◌*◌, ◌/◌, ◌%◌, ◌^◌, ◌≤◌, ◌<◌}
 use native.Mathlib.Omega.{arith}
 use mathlib.Core.Path.{◌≡◌, refl, sym, ap, ◌∙◌}
 use mathlib.Core.List.{List, [], ◌∷◌, ◌++◌}
-use lib.ListN.{length, get_or, length-append}
-use native.Mathlib.Nat.{pow-suc}
+use lib.ListN.{length, get_or}
 use native.Mathlib.Decide.{dec_lt}
+use Rattle.std.proofs.lemmas.Fmt.{decimal_from_appends, length-decimal-le_succ, length-decimal-le}
+use Rattle.std.specs.Fmt as std
 use borrow.Author.Tests.{lt-ltb, le-ltb}
 use Rattle.printing.specs.Decimal.{digit, digits_in, decimal, read_after, number_room}
 
@@ -43,19 +44,15 @@ decimal_more n h =
     digits_more n n h
     ∙ ap (λ (ds : List ℕ). ds ++ (digit (n % 10) ∷ [])) (digits_same n (suc (n / 10)) (n / 10) (omega arith) (omega arith))
 
--- a number below a power of ten has no more digits than that; one in 64 bits has at most twenty
-pub decimal_short : (k n : ℕ) → n < 10 ^ suc k → length (decimal n) ≤ suc k
-decimal_short zero n h = rw (decimal_one n h) (omega arith)
-decimal_short (suc k) n h =
-    elim (dec_lt n 10) [
-      | yes one ↦ rw (decimal_one n one) (omega arith)
-      | no more ↦
-          let tenth = decimal_short k (n / 10) (omega (arith, pow-suc 10 (suc k))) in
-          omega (arith, simp length-append at (ap length (decimal_more n (omega arith))))
-    ]
+-- the library's digits of a number in 64 bits are these
+pub decimal_as_std : (n : ℕ) → n < 2 ^ 64 → std.decimal n ≡ decimal n
+unfolding decimal
+decimal_as_std n h =
+    sym (decimal_from_appends digits_in (record { one = digits_one; more = digits_more }) (suc n) n h (omega (arith, length-decimal-le_succ n h)))
 
+-- a number in 64 bits has at most twenty digits
 pub decimal_room : (n : ℕ) → n < 2 ^ 64 → length (decimal n) ≤ number_room
-decimal_room n h = decimal_short 19 n (omega arith)
+decimal_room n h = rw (← decimal_as_std n h) (length-decimal-le 20 n (omega arith) (omega arith) h)
 
 -- the digits of a number give it back
 read_append : (high : ℕ) (xs : List ℕ) (byte : ℕ)

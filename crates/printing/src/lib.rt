@@ -1,53 +1,67 @@
-//! Words and numbers put into a lent buffer from a place on; each answers the next place.
+//! A page of text that grows at its end by words and decimal numbers, and is put into a lent buffer.
 #![tactic(auto)]
 
-ghost use Rattle.std.specs.Prelude.{◌+◌, ◌≤◌, ◌++◌, length};
+ghost use Rattle.std.specs.Prelude.{◌≡◌, ◌+◌, ◌≤◌, ◌++◌, length};
 ghost use Rattle.printing.specs.Decimal.{decimal, number_room};
 ghost use Rattle.printing.specs.Buffer.{Puts};
 
-// The digits of a number: those of its tenth, then the last.
-#[tactic(auto, using(crate::proofs::Digits::one_digit_lies, crate::proofs::Digits::one_digit_ends))]
-fn put_digits(out: &mut [u8], at: usize, n: u64) -> usize
-    requires { at + length (decimal n) ≤ length out.old }
-    ensures { Puts out.old at (decimal n) out.new result }
-{
-    if n < 10 {
-        out[at] = 48 + n as u8;
-        return at + 1;
+use arrayvec::ArrayString;
+use itoa::Buffer;
+use std::marker::Model;
+
+/// A text of at most `ROOM` bytes. It grows without an allocator, and a call that has room can't fail.
+#[derive(Debug, Default, Drop)]
+pub struct Page<const ROOM: usize> {
+    text: ArrayString<ROOM>,
+}
+
+impl<const ROOM: usize> Model for Page<ROOM> {
+    ghost use Rattle.std.specs.Prelude.{ℕ, List};
+
+    ghost Value = { List ℕ };
+
+    ghost view = { λ page. page.text.bytes };
+}
+
+impl<const ROOM: usize> Page<ROOM> {
+    /// A word.
+    pub fn word(&mut self, word: &str)
+        requires { length self.old + length word.now ≤ ROOM }
+        ensures { self.new ≡ self.old ++ word.now }
+    {
+        self.text.push_str(word);
     }
-    let next = put_digits(out, at, n / 10);
-    out[next] = 48 + (n % 10) as u8;
-    next + 1
-}
 
-// A word, byte by byte.
-pub fn put_word(out: &mut [u8], at: usize, word: &[u8]) -> usize
-    requires { at + length word.now ≤ length out.old }
-    ensures { Puts out.old at word.now out.new result }
-{
-    let mut i: usize = 0;
-    while i < word.len() {
-        out[at + i] = word[i];
-        i += 1;
+    /// A number in decimal, where there is room for any.
+    #[tactic(auto, using(crate::proofs::Decimal::decimal_as_std, crate::proofs::Decimal::decimal_room))]
+    pub fn number(&mut self, number: u64)
+        requires { length self.old + number_room ≤ ROOM }
+        ensures grows { self.new ≡ self.old ++ decimal number }
+        ensures short { length (decimal number) ≤ number_room }
+    {
+        self.text.push_str(Buffer::new().format(number));
     }
-    at + i
-}
 
-// A number in decimal, where there is room for any.
-pub fn put_number(out: &mut [u8], at: usize, n: u64) -> usize
-    requires { at + number_room ≤ length out.old }
-    ensures puts { Puts out.old at (decimal n) out.new result }
-    ensures n_len_bound { length (decimal n) ≤ number_room }
-{
-    put_digits(out, at, n)
-}
+    /// A word, and a number in decimal after it.
+    pub fn worded(&mut self, word: &str, number: u64)
+        requires { length self.old + length word.now + number_room ≤ ROOM }
+        ensures grows { self.new ≡ self.old ++ word.now ++ decimal number }
+        ensures short { length (decimal number) ≤ number_room }
+    {
+        self.word(word);
+        self.number(number);
+    }
 
-// A word, and a number in decimal after it.
-pub fn put_worded(out: &mut [u8], at: usize, word: &[u8], n: u64) -> usize
-    requires { at + length word.now + number_room ≤ length out.old }
-    ensures puts { Puts out.old at (word.now ++ decimal n) out.new result }
-    ensures n_in_bounds { length (word.now ++ decimal n) ≤ length word.now + number_room }
-{
-    let next = put_word(out, at, word);
-    put_number(out, next, n)
+    /// Puts the text into a lent buffer from a place on, and answers the next place.
+    #[tactic(auto, unfolding(crate::specs::Buffer::overlaid))]
+    pub fn put(&self, out: &mut [u8], at: usize) -> usize
+        requires { at + ROOM ≤ length out.old }
+        ensures puts { Puts out.old at self.now out.new result }
+        ensures short { length self.now ≤ ROOM }
+    {
+        let text = self.text.as_str().as_bytes();
+        let next = at + text.len();
+        out[at..next].copy_from_slice(text);
+        next
+    }
 }

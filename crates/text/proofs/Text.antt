@@ -68,33 +68,31 @@ module _ (M : ℕ) (rows : List Row) where
       (cc, omega (arith, none.stands, sound.few_rows)))
       (judged_means M rows sound).ends
 
--- What the code has of a sheet: its table, and the analysis of that.
-pub record Analysed (sheet : Sheet) (table : Table) (analysis : Analysis) : Type 0 where
-  pub tabled : table ≡ table_of sheet
-  pub judges : analysis ≡ analysis_of (judged sheet.cores (rows_of table))
-
--- the lines that the code puts before the last one, k of them row lines
+-- the lines that the code prints before the last one, k of them row lines
 abbrev pub lines_before : Sheet → Table → Analysis → ℕ → List ℕ
 lines_before sheet table analysis k = lines_up_to sheet table.count (numbers analysis.bounds) k
 
-module _ (sheet : Sheet) (table : Table) (analysis : Analysis) (a : Analysed sheet table analysis) where
+-- the text by the analysis of the sheet's table
+module _ (sheet : Sheet) (table : Table) (analysis : Analysis) (tabled : table ≡ table_of sheet)
+    (judges : analysis ≡ analysis_of (judged sheet.cores (rows_of table))) where
   abbrev found : Judged
   found = judged sheet.cores (rows_of table)
 
   answer_is : found.answer ≡ analysis.answer
   unfolding analysis_of
-  answer_is = sym (ap (λ (x : Analysis). x.answer) a.judges)
+  answer_is = sym (ap (λ (x : Analysis). x.answer) judges)
 
   lines_are : bound_lines sheet (rows_of table) found.bounds ≡ lines_before sheet table analysis (length found.bounds)
   unfolding bound_lines analysis_of
   lines_are =
-      rw (length_rows table, ap (λ (x : Analysis). x.bounds) a.judges, lines_in_array sheet.tick sheet.entries found.bounds (length found.bounds)) refl
+      rw (length_rows table, ap (λ (x : Analysis). x.bounds) judges, lines_in_array sheet.tick sheet.entries found.bounds (length found.bounds)) refl
 
   text_is : (answer : Answer) → analysis.answer ≡ answer
       → sheet_text sheet ≡ judged_text sheet (rows_of table) (record { answer = answer; bounds = found.bounds })
   unfolding sheet_text judged_text
-  text_is answer e = rw (← a.tabled, answer_is, e) refl
+  text_is answer e = rw (← tabled, answer_is, e) refl
 
+  -- all shown: the lines of a table's rows, which it has room for
   pub count_shown : analysis.answer ≡ Shown → table.count ≤ row_capacity
   count_shown e = omega (arith, length_rows table, (shown_counts sheet.cores (rows_of table) (answer_is ∙ e)).1)
 
@@ -104,23 +102,24 @@ module _ (sheet : Sheet) (table : Table) (analysis : Analysis) (a : Analysed she
       let same : length found.bounds ≡ table.count = (shown_counts sheet.cores (rows_of table) (answer_is ∙ e)).0 ∙ length_rows table in
       text_is Shown e ∙ rw (lines_are, same) refl
 
-  pub place_not_shown : (number place : ℕ) → analysis.answer ≡ NotShown number place
+  -- a row not shown: the lines of those before it
+  pub before_not_shown : {number place : ℕ} → analysis.answer ≡ NotShown number place
       → (0 < place) × (place ≤ row_capacity)
-  place_not_shown number place e =
+  before_not_shown {number} {place} e =
       let counts = not_shown_counts sheet.cores (rows_of table) number place (answer_is ∙ e) in
       (omega (arith, counts.0), omega (arith, counts.0, counts.1))
 
-  pub text_not_shown : (number place : ℕ) → analysis.answer ≡ NotShown number place
+  pub text_not_shown : {number place : ℕ} → analysis.answer ≡ NotShown number place
       → sheet_text sheet ≡ lines_before sheet table analysis (place - 1) ++ not_shown_line place (label_at sheet (place - 1))
   unfolding judged_text
-  text_not_shown number place e =
+  text_not_shown {number} {place} e =
       let same : length found.bounds ≡ place - 1 =
       omega (arith, (not_shown_counts sheet.cores (rows_of table) number place (answer_is ∙ e)).0) in
       text_is (NotShown number place) e ∙ rw (lines_are, same) refl
 
-  pub text_refused : (fault : Fault) → analysis.answer ≡ Refused fault → sheet_text sheet ≡ paper_line (fault_paper fault)
+  pub text_refused : {fault : Fault} → analysis.answer ≡ Refused fault → sheet_text sheet ≡ paper_line (fault_paper fault)
   unfolding judged_text
-  text_refused fault e = text_is (Refused fault) e
+  text_refused {fault} e = text_is (Refused fault) e
 
 -- the text by the reader's answer
 module _ (bytes : List ℕ) (outcome : Outcome) (reads : outcome ≡ read_of bytes) where
