@@ -11,7 +11,7 @@ use printing::Page;
 use quantities::{Micros, Table, Ticks};
 
 /// A line of the text.
-#[derive(Clone, Copy)]
+#[derive(Clone, Copy, Debug, PartialEq, Eq)]
 pub enum Line {
     /// The first line: cores, tick length, number of rows.
     First {
