@@ -28,3 +28,5 @@ opening_sound cores table e = rw (checked_ok (list_fault cores (rows_of table)) 
 pub no_bench_broken : broken no_bench ≡ true
 unfolding broken no_bench empty_bench empty_table rows_of is_fault list_fault list_checks first_failing fault_from
 no_bench_broken = refl
+
+pub ruleset opening_cases = (opening_faulty, opening_sound)

@@ -11,6 +11,7 @@ use Rattle.std.specs.Prelude.{Ok, Err}
 use Rattle.laws.specs.Checks.{first_failing}
 use Rattle.laws.proofs.Checks.{none_fails}
 use Rattle.laws.proofs.Tests.{or_false, not_one}
+use Rattle.quantities.specs.Limits.{row_capacity}
 use Rattle.quantities.specs.Row.{cost, gap, no_row}
 use Rattle.quantities.specs.declared.Row.{Row}
 use Rattle.quantities.proofs.Rows.{length_rows, row_at_lem}
@@ -19,7 +20,7 @@ use Rattle.bench.specs.declared.Refusal.{Refusal}
 use Rattle.bench.specs.declared.Refusal.TheVariants.{NoPlace, Unfinished, TooSoon, WrongDemand, ClockEnd, BrokenRecord}
 use Rattle.bench.specs.State.{last_instant, rows, row_at, state_at, work, broken}
 use Rattle.bench.specs.Refusal.{too_soon, release_tests, tick_tests, outcome_of}
-use Rattle.bench.proofs.State.{few_rows}
+use Rattle.bench.proofs.State.{few_rows, whole_of}
 
 -- A release of `demand` at `place` is permitted.
 pub record MayRelease (b : Bench) (place demand : ℕ) : Type 0 where
@@ -68,6 +69,14 @@ pub outcome_refused : (found : Option Refusal) (why : Refusal) → outcome_of fo
 unfolding outcome_of
 outcome_refused none why e = absurd (not_one cc)
 outcome_refused (some other) why e = cc
+
+-- a tick that is taken finds its rows kept, and the clock not at its end
+pub may_serve : (b : Bench) → outcome_of (first_failing (tick_tests b)) ≡ Ok tt
+    → (b.table.count ≤ row_capacity) × (b.now.0 < last_instant)
+may_serve b taken =
+    let may = may_tick b (outcome_taken (first_failing (tick_tests b)) taken) in
+    let whole = whole_of b may.whole in
+    (few_rows b may.whole, omega (arith, whole.in_time, may.clock))
 
 -- Why a tick is refused, by the first test that fails.
 module _ (b : Bench) where
@@ -129,3 +138,7 @@ module _ (b : Bench) (place demand : ℕ) where
 pub ruleset release_cases = (few_rows, release_29, release_20_zero, release_20_above, release_23_zero, release_23_above, release_22, release_21, release_permitted)
 
 pub ruleset tick_cases = (tick_29, tick_24, tick_permitted)
+
+pub ruleset judged_release = (outcome_taken, outcome_refused, few_rows, may_release, length_rows)
+
+pub ruleset judged_tick = (outcome_taken, outcome_refused, may_serve)

@@ -1,45 +1,34 @@
 -- Laws of a broken record: which row's state breaks it, looked for from the top.
-use Prim.Native.Nat.{ℕ, ◌+◌, ◌≤◌, ◌<◌}
+use Prim.Native.Nat.{ℕ, ◌≤◌, ◌<◌}
 use native.Mathlib.Decide.{dec_le}
-use native.Mathlib.Numerals.{add-one}
 use native.Mathlib.Omega.{arith}
-use mathlib.Core.Path.{◌≡◌, refl}
+use mathlib.Core.Path.{◌≡◌, refl, ap}
 use mathlib.Core.Bool.{true, false, ◌||◌}
-use mathlib.Core.List.{List}
+use mathlib.Core.List.{List, [], ◌∷◌}
 use mathlib.Core.Option.{Option, none, some}
 use lib.Dec.{ltb}
-use lib.ListN.{length, get_or, drop}
-use lib.Seq.{drop-cons}
 use borrow.Author.Tests.{lt-ltb, le-ltb, ltb-false}
 use Rattle.laws.proofs.Tests.{or_false, not_one}
 use Rattle.quantities.specs.Limits.{row_capacity}
-use Rattle.quantities.specs.Row.{no_row}
 use Rattle.quantities.specs.Table.{rows_of}
 use Rattle.quantities.specs.Checks.{list_fault}
+use Rattle.std.specs.List.{list_any, zip}
+use Rattle.quantities.specs.declared.Row.{Row}
 use Rattle.quantities.specs.declared.Fault.{Fault}
 use Rattle.quantities.specs.declared.Table.{Table}
-use Rattle.quantities.proofs.Rows.{length_rows, rows_from_lem, rows_end}
-use Rattle.quantities.proofs.Checks.{list_fault_many_rows}
+use Rattle.quantities.proofs.Rows.{length_rows}
+use Rattle.quantities.proofs.Checks.{list_fault_many_rows, checked_ok, checked_err}
 use Rattle.bench.specs.declared.RowState.{RowState}
 use Rattle.bench.specs.declared.Bench.{Bench}
-use Rattle.bench.specs.State.{last_instant, idle, rows, row_broken, rows_broken, is_fault, broken}
+use Rattle.bench.specs.State.{last_instant, rows, row_broken, rows_broken, is_fault, broken}
 
--- One turn at the row with index i: its state breaks the record, or the rows below decide.
-module _ (now : ℕ) (table : Table) (states : List RowState) (i : ℕ) (h : i < table.count) (l : i < length states) where
-  pub rows_broken_here : row_broken now (get_or table.rows i no_row) (get_or states i idle) ≡ true
-      → rows_broken now (drop i (rows_of table)) (drop i states) ≡ true
-  unfolding rows_broken
-  rows_broken_here e = rw (rows_from_lem table i h, drop-cons states i idle l, rows_broken, e)
-
-  pub rows_broken_below : row_broken now (get_or table.rows i no_row) (get_or states i idle) ≡ false
-      → rows_broken now (drop i (rows_of table)) (drop i states) ≡ rows_broken now (drop (i + 1) (rows_of table)) (drop (i + 1) states)
-  unfolding rows_broken
-  rows_broken_below e = rw (add-one, rows_from_lem table i h, drop-cons states i idle l, rows_broken, e)
-
--- past the last row there is none that breaks it
-pub rows_broken_end : (now : ℕ) (table : Table) (states : List RowState) → rows_broken now (drop table.count (rows_of table)) states ≡ false
+-- of the rows and the states beside them, some pair's state breaks the record
+pub rows_broken_any : (now : ℕ) (rows : List Row) (states : List RowState)
+    → list_any (λ (at : Row × RowState). row_broken now at.0 at.1) (zip rows states) ≡ rows_broken now rows states
 unfolding rows_broken
-rows_broken_end now table states = rw (rows_end table, rows_broken)
+rows_broken_any now [] states = refl
+rows_broken_any now (row ∷ rest) [] = refl
+rows_broken_any now (row ∷ rest) (state ∷ states) = ap (◌||◌ (row_broken now row state)) (rows_broken_any now rest states)
 
 -- a table without fault has at most as many rows as it can keep
 pub sound_fits : (cores : ℕ) (table : Table) → list_fault cores (rows_of table) ≡ none → table.count ≤ row_capacity
@@ -91,3 +80,5 @@ module _ (b : Bench) where
   pub broken_rows : list_fault b.cores (rows b) ≡ none → b.now.0 ≤ last_instant → broken b ≡ rows_broken b.now.0 (rows b) b.states
   unfolding broken is_fault
   broken_rows e h = rw (e, le-ltb last_instant b.now.0 h)
+
+pub ruleset broken_cases = (checked_ok, checked_err, sound_fits, broken_table, broken_clock, broken_rows)

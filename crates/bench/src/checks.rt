@@ -23,14 +23,9 @@ fn last_broken(now: Instant, last: Option<Instant>, left: Ticks) -> bool
 fn row_broken(now: Instant, row: Row, state: RowState) -> bool
     ensures { result ≡ row_broken now.0 row state }
 {
-    let last = state.last;
-    if last_broken(now, last, state.left) {
-        return true;
-    }
-    if row.costs_less(state.demand) {
-        return true;
-    }
-    state.demand.0 < state.left.0
+    last_broken(now, state.last, state.left)
+        || row.costs_less(state.demand)
+        || state.demand < state.left
 }
 
 // Whether 29 is due for the state of one of the rows.
@@ -38,17 +33,10 @@ pub(crate) fn rows_broken(b: Bench) -> bool
     requires { b.table.count ≤ row_capacity }
     ensures { result ≡ rows_broken b.now.0 (rows b) b.states }
 {
-    let table = b.table;
-    let mut i: usize = 0;
-    while i < table.count {
-        let row = table.rows[i];
-        let state = b.states[i];
-        if row_broken(b.now, row, state) {
-            return true;
-        }
-        i += 1;
-    }
-    false
+    b.table.rows[..b.table.count]
+        .iter()
+        .zip(&b.states)
+        .any(|(row, state)| row_broken(b.now, *row, *state))
 }
 
 // Whether a row with this gap was released fewer than that many ticks ago.

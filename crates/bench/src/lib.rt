@@ -18,7 +18,7 @@ mod checks;
 mod tick;
 
 // What the bench holds of a row: its last release, if there was one, the demand released then, and what remains of it.
-#[derive(Clone, Copy)]
+#[derive(Clone, Copy, Debug, PartialEq, Eq)]
 pub struct RowState {
     pub last: Option<Instant>,
     pub demand: Ticks,
@@ -26,7 +26,7 @@ pub struct RowState {
 }
 
 // A board being run: its cores and table, the present instant, and a state for each row of the table.
-#[derive(Clone, Copy)]
+#[derive(Clone, Copy, Debug, PartialEq, Eq)]
 pub struct Bench {
     pub cores: u32,
     pub table: Table,
@@ -35,14 +35,14 @@ pub struct Bench {
 }
 
 // A call on the bench.
-#[derive(Clone, Copy)]
+#[derive(Clone, Copy, Debug, PartialEq, Eq)]
 pub enum Request {
     Release(usize, Ticks),
     Tick,
 }
 
 // Why a call is turned away, at the place given: numbers 20 to 24 and 29 of document 01.
-#[derive(Clone, Copy)]
+#[derive(Clone, Copy, Debug, PartialEq, Eq)]
 pub enum Refusal {
     NoPlace(usize),
     Unfinished(usize),
@@ -53,35 +53,35 @@ pub enum Refusal {
 }
 
 // A poll that ended: the place of its row, and the ticks from its release to its end.
-#[derive(Clone, Copy)]
+#[derive(Clone, Copy, Debug, PartialEq, Eq)]
 pub struct Finish {
     pub place: usize,
     pub response: Ticks,
 }
 
 // The polls that ended in a tick, in rising place; entries from `count` on are blank.
-#[derive(Clone, Copy)]
+#[derive(Clone, Copy, Debug, PartialEq, Eq)]
 pub struct Finishes {
     pub count: usize,
     pub list: [Finish; Table::ROW_CAPACITY],
 }
 
 // The answer to an opening: what checks 1 to 6 found and, where they found nothing, the bench at instant 0.
-#[derive(Clone, Copy)]
+#[derive(Clone, Copy, Debug, PartialEq, Eq)]
 pub struct Opening {
     pub found: Result<(), Fault>,
     pub bench: Bench,
 }
 
 // The answer to a release, and the bench after it.
-#[derive(Clone, Copy)]
+#[derive(Clone, Copy, Debug, PartialEq, Eq)]
 pub struct Released {
     pub outcome: Result<(), Refusal>,
     pub bench: Bench,
 }
 
 // The answer to a tick, and the bench after it.
-#[derive(Clone, Copy)]
+#[derive(Clone, Copy, Debug, PartialEq, Eq)]
 pub struct Ticked {
     pub outcome: Result<(), Refusal>,
     pub finishes: Finishes,
@@ -193,6 +193,7 @@ impl Bench {
     }
 
     // A bench for a table that passes checks 1 to 6, at instant 0.
+    #[tactic(auto, using(crate::proofs::Open::opening_cases))]
     pub fn opened(cores: u32, table: Table) -> Opening
         ensures { result ≡ opening_of cores table }
     {
@@ -209,6 +210,7 @@ impl Bench {
     }
 
     // Whether number 29 is due: by a table failing 1 to 6, an instant above 1,000,000,000, or a row's state.
+    #[tactic(auto, using(crate::proofs::State::broken_cases))]
     pub fn broken(self) -> bool
         ensures { result ≡ broken self }
     {
@@ -275,6 +277,7 @@ impl Bench {
     }
 
     // A poll of `demand` at `place` starts at the present instant; a refused release changes nothing.
+    #[tactic(auto, using(crate::proofs::Permitted::judged_release), unfolding(crate::specs::Step::released_of, crate::specs::Step::release, crate::specs::Step::unless_refused))]
     pub fn release(self, place: usize, demand: Ticks) -> Released
         ensures { result ≡ released_of (release self place demand.0) }
     {
@@ -291,6 +294,7 @@ impl Bench {
     }
 
     // Rows with work are served from the top, one unit each, while there are cores; the instant grows by one.
+    #[tactic(auto, using(crate::proofs::Permitted::judged_tick), unfolding(crate::specs::Step::ticked_of, crate::specs::Step::tick, crate::specs::Step::unless_refused))]
     pub fn tick(self) -> Ticked
         ensures { result ≡ ticked_of (tick self) }
     {
@@ -305,6 +309,7 @@ impl Bench {
     }
 
     // The answer to a call, and the bench after it; a release ends no poll.
+    #[tactic(auto, using(crate::proofs::Steps::released_answer), unfolding(crate::specs::History::call_of))]
     pub fn answer(self, request: Request) -> Ticked
         ensures { result ≡ ticked_of (do_call self (call_of request)) }
     {

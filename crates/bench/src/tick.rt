@@ -48,15 +48,14 @@ pub(crate) fn serve(b: Bench) -> Ticked
     let mut states = b.states;
     let mut free = b.cores;
     let mut finishes = Finishes::none();
-    for i in 0..b.table.count {
-        let state = states[i];
-        let turn = serve_row(state, free);
+    for (i, state) in states[..b.table.count].iter_mut().enumerate() {
+        let turn = serve_row(*state, free);
         let poll = Finish {
             place: i + 1,
             response: since(end, state.last),
         };
         finishes = finishes.noted(turn.ends, poll);
-        states[i] = turn.state;
+        *state = turn.state;
         free = turn.free;
     }
     Ticked {

@@ -10,7 +10,7 @@ use bench::{Bench, Finishes, Refusal};
 use quantities::Ticks;
 
 // The answer to a tick of a lent bench: taken or refused, and the polls that ended.
-#[derive(Clone, Copy)]
+#[derive(Clone, Copy, Debug, PartialEq, Eq)]
 pub struct TickAnswer {
     pub outcome: Result<(), Refusal>,
     pub finishes: Finishes,

@@ -37,13 +37,15 @@ use Rattle.lentrows.specs.declared.Told.{Told}
 use Rattle.lentrows.specs.Lent.{told_of}
 use Rattle.exports.specs.Exported.{rows_from, Exported}
 use Rattle.bench.specs.declared.Bench.{Bench}
+use Rattle.bench.specs.declared.Refusal.{Refusal}
+use Rattle.bench.specs.declared.Refusal.TheVariants.{NoPlace, Unfinished, TooSoon, WrongDemand, ClockEnd, BrokenRecord}
 use Rattle.bench.specs.declared.Finish.{Finish}
 use Rattle.bench.specs.declared.Request.{Request}
 use Rattle.bench.specs.declared.Request.TheVariants.{Release, Tick}
 use Rattle.bench.specs.declared.Opening.{Opening}
 use Rattle.bench.specs.declared.Released.{Released}
 use Rattle.bench.specs.declared.Ticked.{Ticked}
-use Rattle.bench.specs.Refusal.{Outcome as CallOutcome, outcome_paper, release_tests, tick_tests, outcome_of}
+use Rattle.bench.specs.Refusal.{Outcome as CallOutcome, outcome_paper, refusal_paper, release_tests, tick_tests, outcome_of}
 use Rattle.bench.specs.State.{broken}
 use Rattle.bench.specs.Ended.{finishes_of}
 use Rattle.bench.specs.Step.{opening_of, release, tick, released_of, ticked_of}
@@ -70,7 +72,7 @@ use Rattle.benchpages.proofs.CallBytes.{replay_answered, replay_no_room, replay_
 use Rattle.promised.specs.Promised.{SheetAnswer, TextAnswer, AnalysisAnswer, TableAnswer}
 use Rattle.promised.specs.Promised.{KindAnswer, RecordAnswer, size_is, EndAnswer, ToldAnswer}
 use Rattle.promised.specs.Promised.{NoRows, OneRowMore, OpeningAnswer, ReleaseAnswer, TickAnswer}
-use Rattle.promised.specs.Promised.{BrokenAnswer, RequestAnswer, OutcomeBy, ReplayAnswer, AnswerForC}
+use Rattle.promised.specs.Promised.{BrokenAnswer, RequestAnswer, OutcomeBy, number_is, place_is, ReplayAnswer, AnswerForC}
 
 pub sheet_answer : (sheet : List ℕ) (r : Outcome) → r ≡ read_of sheet → SheetAnswer sheet r
 sheet_answer sheet r is =
@@ -286,6 +288,25 @@ tick_judged b r is =
       turned_away = λ one first. ap outcome_paper same ∙ (call_turned_away b ticks one first).on_paper;
       taken = λ passed. same ∙ call_taken b ticks passed;
     }
+
+-- a refusal's number and place on paper are those of the page
+pub numbered : (why : Refusal) → (refusal_paper why).number ≡ number_is why
+unfolding refusal_paper number_is
+numbered (NoPlace place) = refl
+numbered (Unfinished place) = refl
+numbered (TooSoon place) = refl
+numbered (WrongDemand place) = refl
+numbered ClockEnd = refl
+numbered BrokenRecord = refl
+
+pub placed : (why : Refusal) → (refusal_paper why).place ≡ place_is why
+unfolding refusal_paper place_is
+placed (NoPlace place) = refl
+placed (Unfinished place) = refl
+placed (TooSoon place) = refl
+placed (WrongDemand place) = refl
+placed ClockEnd = refl
+placed BrokenRecord = refl
 
 pub replay_answer : (cores : ℕ) (table : Table) (calls before after : List ℕ) (r : Replayed)
     → r ≡ (replay cores table calls before).answer → after ≡ (replay cores table calls before).out

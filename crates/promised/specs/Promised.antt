@@ -27,6 +27,9 @@ use Rattle.sheet.specs.declared.Outcome.{Outcome}
 use Rattle.analysis.specs.declared.Analysis.{Analysis}
 use Rattle.lentrows.specs.declared.Told.{Told}
 use Rattle.bench.specs.declared.Bench.{Bench}
+use Rattle.bench.specs.declared.Refusal.{Refusal}
+use Rattle.bench.specs.declared.Refusal.TheVariants.{NoPlace, Unfinished, TooSoon, WrongDemand}
+use Rattle.bench.specs.declared.Refusal.TheVariants.{ClockEnd, BrokenRecord}
 use Rattle.bench.specs.declared.Finish.{Finish}
 use Rattle.bench.specs.declared.Request.{Request}
 use Rattle.bench.specs.declared.Request.TheVariants.{Release, Tick}
@@ -238,6 +241,23 @@ RequestAnswer b (Release place demand) r =
 pub record OutcomeBy (checks : List (Check Paper)) (r : CallOutcome) : Type 0 where
   pub turned_away : (one : Paper) → FirstFailing checks one → outcome_paper r ≡ paper one.number one.place
   pub taken : Each (λ one. one.fails ≡ false) checks → r ≡ Ok tt
+
+-- `Refusal::number` and `Refusal::place`: 20 to 23 with the place given, 24 and 29 with place 0.
+unfoldable pub number_is : Refusal → ℕ
+number_is (NoPlace place) = 20
+number_is (Unfinished place) = 21
+number_is (TooSoon place) = 22
+number_is (WrongDemand place) = 23
+number_is ClockEnd = 24
+number_is BrokenRecord = 29
+
+unfoldable pub place_is : Refusal → ℕ
+place_is (NoPlace place) = place
+place_is (Unfinished place) = place
+place_is (TooSoon place) = place
+place_is (WrongDemand place) = place
+place_is ClockEnd = 0
+place_is BrokenRecord = 0
 
 -- `replay::replay`: every call answered where there is room for all answers; the answers to the first calls
 -- where there is none for the next one; and no answer on a board that is not opened.

@@ -7,7 +7,7 @@ ghost use Rattle.exports.specs.Exported.{rows_from};
 ghost use Rattle.promised.specs.Promised.{SheetAnswer, FirstSheetAnswer, TextAnswer};
 ghost use Rattle.promised.specs.Promised.{AnalysisAnswer, TableAnswer};
 ghost use Rattle.promised.specs.Promised.{NoRows, OneRowMore, OpeningAnswer, ReleaseAnswer};
-ghost use Rattle.promised.specs.Promised.{BrokenAnswer, TickAnswer, RequestAnswer, OutcomeBy};
+ghost use Rattle.promised.specs.Promised.{BrokenAnswer, TickAnswer, RequestAnswer, OutcomeBy, number_is, place_is};
 ghost use Rattle.promised.specs.Promised.{ReplayAnswer, AnswerForC, ToldAnswer};
 ghost use Rattle.promised.specs.Promised.{KindAnswer, RecordAnswer, size_is, EndAnswer, RowsOfEntries, RowAnswer};
 ghost use Rattle.promised.specs.Promised.{NoEntries, UsedAnswer, EntryAnswer};
@@ -125,6 +125,20 @@ pub fn judge_tick(b: Bench) -> Result<(), Refusal>
     ensures { OutcomeBy (tick_order b) result }
 {
     b.judge_tick()
+}
+
+#[tactic(auto, using(crate::proofs::Promised::numbered))]
+pub fn refusal_number(why: Refusal) -> u8
+    ensures { result ≡ number_is why }
+{
+    why.number()
+}
+
+#[tactic(auto, using(crate::proofs::Promised::placed))]
+pub fn refusal_place(why: Refusal) -> usize
+    ensures { result ≡ place_is why }
+{
+    why.place()
 }
 
 pub fn is_broken(b: Bench) -> bool

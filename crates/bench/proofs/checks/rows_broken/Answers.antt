@@ -1,24 +1,17 @@
--- rows_broken looks at the rows from the top, and stops at the first whose state breaks the record.
-use mathlib.Core.Path.{◌≡◌, sym, ◌∙◌}
-use native.Mathlib.Omega.{arith}
-use Rattle.bench.proofs.State.{rows_broken_here, rows_broken_below, rows_broken_end}
+-- rows_broken answers whether some row's state breaks the record.
+use Rattle.std.proofs.Common.{rules, tests, ◌∙◌, arith, take}
+use Rattle.std.proofs.lemmas.Iterator.{YieldsList-from_slice, YieldsList-from_zip}
+use Rattle.std.proofs.lemmas.Iterator.Search.{any_from_yields_List}
+use Rattle.quantities.proofs.Rows.{rows_kept}
+use Rattle.bench.specs.State.{row_broken}
+use Rattle.bench.proofs.State.{rows_broken_any}
 use Rattle.bench.proofs.checks.rows_broken.Goals as goal
-
-pub returns-then-row_broken : goal.returns-then-row_broken
-returns-then-row_broken c =
-    let i = c.loop-i.i in
-    let b = c.args.b in
-    sym (c.loop-i.invariant.1 ∙ rows_broken_here b.now.0 b.table b.states i (omega arith) (omega arith) (sym c.row_broken.ensures ∙ c.if-row_broken.true))
-
-pub loop-i-preserved : goal.loop-i-preserved
-loop-i-preserved c =
-    let i = c.loop-i.i in
-    let b = c.args.b in
-    (omega arith, c.loop-i.invariant.1 ∙ rows_broken_below b.now.0 b.table b.states i (omega arith) (omega arith) (sym c.row_broken.ensures ∙ c.if-row_broken.false))
 
 pub returns : goal.returns
 returns c =
-    let i = c.loop-i.i in
     let b = c.args.b in
-    let e : i ≡ b.table.count = omega arith in
-    simp (c.loop-i.invariant.1, e, rows_broken_end)
+    let kept = take b.table.count b.table.rows in
+    rw (rows_kept b.table (omega arith))
+    (any_from_yields_List (λ at. row_broken b.now.0 at.0 at.1) c.any.new.self _ _ c.any.ensures.ran
+    (YieldsList-from_zip (YieldsList-from_slice kept cc) (YieldsList-from_slice b.states cc)) (λ x b q k. search (rules, tests))
+    ∙ rows_broken_any b.now.0 kept b.states)
