@@ -1,4 +1,5 @@
 -- The walk down the table: what the bounds array holds when the rows above index i have their bounds.
+use Rattle.std.specs.Prelude.{None, Some}
 use Prim.Native.Nat.{ℕ, zero, suc, ◌-◌, ◌≤◌, ◌<◌}
 use native.Mathlib.Omega.{arith}
 use native.Mathlib.Nat.{le_refl}
@@ -29,7 +30,6 @@ use Rattle.windows.proofs.Bound.{bound_in_range, bounds_on, bounds_stop, bounds_
 use Rattle.windows.proofs.Judgement.{verdict_all, verdict_short}
 use Rattle.analysis.specs.Analysis.{analysis_of}
 use Rattle.analysis.specs.Engine.{above, ShortGap, found_of}
-use Rattle.analysis.specs.declared.Found.TheVariants.{At, Nothing}
 
 -- The first i entries are the bounds of the rows above, which are in range and have short gaps, and the others are 0;
 -- with the bounds of the rows from there on they are the bounds of the list.
@@ -138,12 +138,12 @@ module _ (cores : ℕ) (table : Table) (bounds : List Ticks) (i : ℕ)
         rw (verdict_short table.count (bounds_below cores [] (rows_of table)) (λ e. omega (arith, long)), ← held, long) refl
 
 -- what the code's answer for one row says of its bound
-pub found_some : (found : Option ℕ) (t : Ticks) → found_of found ≡ At t → found ≡ some t.0
+pub found_some : (found : Option ℕ) (t : Ticks) → found_of found ≡ Some t → found ≡ some t.0
 unfolding found_of
 found_some none t e = absurd (not_one cc)
 found_some (some x) t e = let same : ticks x ≡ t = cc in ap (λ (l : Ticks). some l.0) same
 
-pub found_none : (found : Option ℕ) → found_of found ≡ Nothing → found ≡ none
+pub found_none : (found : Option ℕ) → found_of found ≡ None → found ≡ none
 unfolding found_of
 found_none none e = refl
 found_none (some x) e = absurd (not_one cc)

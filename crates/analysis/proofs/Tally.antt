@@ -2,32 +2,23 @@
 use Prim.Native.Nat.{ℕ, zero, suc, ◌+◌, ◌≤◌, min}
 use native.Mathlib.Omega.{arith}
 use native.Mathlib.Numerals.{add-one}
-use mathlib.Core.Path.{◌≡◌, refl, sym}
+use mathlib.Core.Path.{◌≡◌, refl}
 use mathlib.Core.List.{List, ◌∷◌}
 use Rattle.windows.specs.Jump.{roomy, least_room}
 use Rattle.windows.proofs.Room.{roomy_in, roomy_out}
 use Rattle.analysis.specs.Engine.{count_with, least_with}
 
 -- a row without room changes nothing, one with room counts
-pub count_none : (room count : ℕ) → room ≡ 0 → count_with room count ≡ count
-unfolding count_with
-count_none zero count e = refl
-count_none (suc room) count e = absurd (omega arith)
+pub none_more : (room count least : ℕ) → room ≡ 0 → (count ≡ count_with room count) × (least ≡ least_with room least)
+unfolding count_with least_with
+none_more zero count least e = (refl, refl)
+none_more (suc room) count least e = absurd (omega arith)
 
-pub count_some : (room count : ℕ) → (room ≡ 0 → ⊥) → count_with room count ≡ count + 1
-unfolding count_with
-count_some zero count e = absurd (e refl)
-count_some (suc room) count e = sym (add-one count)
-
-pub least_none : (room least : ℕ) → room ≡ 0 → least_with room least ≡ least
-unfolding least_with
-least_none zero least e = refl
-least_none (suc room) least e = absurd (omega arith)
-
-pub least_some : (room least : ℕ) → (room ≡ 0 → ⊥) → least_with room least ≡ min room least
-unfolding least_with
-least_some zero least e = absurd (e refl)
-least_some (suc room) least e = refl
+pub some_more : (room count least : ℕ) → (room ≡ 0 → ⊥)
+    → (count + 1 ≡ count_with room count) × (min room least ≡ least_with room least)
+unfolding count_with least_with
+some_more zero count least e = absurd (e refl)
+some_more (suc room) count least e = (add-one count, refl)
 
 pub count_le : (room count : ℕ) → count_with room count ≤ suc count
 unfolding count_with

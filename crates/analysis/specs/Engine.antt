@@ -1,6 +1,7 @@
 -- What the engine's inner functions ask for and leave. No promise is made in these words.
-use Rattle.std.specs.Prelude.{ℕ, zero, suc, ◌+◌, ◌-◌, ◌*◌, ◌≤◌, ◌<◌, min, max, ◌≡◌, List, length, get_or}
-use Rattle.std.proofs.Math.Option.{Option, none, some}
+use Rattle.std.specs.Prelude.{ℕ, zero, suc, ◌+◌, ◌-◌, ◌*◌, ◌≤◌, ◌<◌, min, max, ◌≡◌, List, [], ◌∷◌, length, get_or, Option, None, Some}
+use Rattle.std.specs.Coded.{×_prop, Unit-prop, le_prop}
+use Rattle.std.proofs.Math.Option.{Option as Maybe, none, some}
 use Rattle.laws.specs.Each.{Each}
 use Rattle.quantities.specs.Limits.{row_capacity, core_limit, largest_gap}
 use Rattle.quantities.specs.Row.{cost, deadline, gap}
@@ -11,8 +12,6 @@ use Rattle.quantities.specs.declared.Ticks.{Ticks}
 use Rattle.windows.specs.Choice.{Bounded, InRange, load, loads, most}
 use Rattle.windows.specs.Jump.{room, rooms, stride}
 use Rattle.windows.specs.Judgement.{row_of_index, above_index}
-use Rattle.analysis.specs.declared.Found.{Found}
-use Rattle.analysis.specs.declared.Found.TheVariants.{At, Nothing}
 
 -- the longest window that the engine tries, in ticks: 64 times the largest gap
 abbrev pub largest_window : ℕ
@@ -35,6 +34,25 @@ pub record Ready (cores : ℕ) (table : Table) (bounds : List Ticks) (k : ℕ) :
   pub within : k ≤ table.count
   pub short : Each ShortGap (above table bounds k)
   pub range : Each InRange (above table bounds k)
+
+-- There is one proof of it at most.
+each_prop : (P : Bounded → Type 0) → ((b : Bounded) → IsProp (P b)) → (bs : List Bounded) → IsProp (Each P bs)
+each_prop P one [] = Unit-prop
+each_prop P one (b ∷ bs) = ×_prop (one b) (each_prop P one bs)
+
+in_range_prop : (b : Bounded) → IsProp (InRange b)
+in_range_prop b = λ p q i. record { works = le_prop p.works q.works i; low = le_prop p.low q.low i; high = le_prop p.high q.high i }
+
+pub Ready-prop : (cores : ℕ) (table : Table) (bounds : List Ticks) (k : ℕ) → IsProp (Ready cores table bounds k)
+Ready-prop cores table bounds k = λ p q i.
+    record {
+      some_cores = le_prop p.some_cores q.some_cores i;
+      few_cores = le_prop p.few_cores q.few_cores i;
+      few_rows = le_prop p.few_rows q.few_rows i;
+      within = le_prop p.within q.within i;
+      short = each_prop ShortGap (λ b. le_prop) (above table bounds k) p.short q.short i;
+      range = each_prop InRange in_range_prop (above table bounds k) p.range q.range i;
+    }
 
 -- The row with index k stands in the table; what it costs can be asked, and its D is no longer than the longest window.
 pub record CanSearch (table : Table) (k : ℕ) : Type 0 where
@@ -88,6 +106,6 @@ pub record TakenIs (cores own x : ℕ) (rows : List Bounded) (m s : ℕ) : Type 
   pub striding : s ≡ stride cores largest_window (rooms own x rows)
 
 -- a window, or none, as the code answers it
-unfoldable pub found_of : Option ℕ → Found
-found_of none = Nothing
-found_of (some x) = At (ticks x)
+unfoldable pub found_of : Maybe ℕ → Option Ticks
+found_of none = None
+found_of (some x) = Some (ticks x)

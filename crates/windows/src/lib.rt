@@ -15,16 +15,11 @@ pub enum Answer {
 }
 
 // What a row that works so much in a window takes from a row with this own cost: at most window − own + 1.
+#[tactic(auto, unfolding(crate::specs::Window::interference, crate::specs::Window::limit))]
 pub fn interference(own: Ticks, window: Ticks, work: Ticks) -> Ticks
     ensures { result ≡ record { 0 = interference own.0 window.0 work.0 } }
 {
-    let mut slack = 0;
-    if own.0 < window.0 {
-        slack = window.0 - own.0;
-    }
-    if work.0 <= slack {
-        return work;
-    }
-    let limit = slack + 1;
-    Ticks(limit)
+    // A limit of one more than a number holds cuts no work off.
+    let limit = window.0.saturating_sub(own.0).saturating_add(1);
+    Ticks(work.0.min(limit))
 }

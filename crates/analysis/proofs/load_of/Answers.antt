@@ -40,5 +40,5 @@ returns c =
     record {
       without = simp (without, plain, cost);
       carrying = simp (carrying, carry, cost);
-      roominess = simp (c.smaller-room.ensures, without, plain, carrying, carry, c.polls_work-polls.ensures, cost);
+      roominess = simp (c.min.ensures, without, plain, carrying, carry, c.polls_work-polls.ensures, cost);
     }

@@ -37,10 +37,10 @@ module _ (carriers without carrying : ℕ) (old mosts : List ℕ) where
 
   -- after the last turn the entry 0 is raised
   last : carriers < core_limit → In carriers without carrying old mosts 0
-      → (m : ℕ) → m ≤ carriers → get_or (set mosts 0 (without + get_or mosts 0 0)) m 0 ≡ raised_at old without carrying m
+      → (m : ℕ) → m ≤ carriers → get_or (set mosts 0 (get_or mosts 0 0 + without)) m 0 ≡ raised_at old without carrying m
   unfolding raised_at
-  last few i zero h = let inside : 0 < length mosts = omega arith in rw (get_or-set_same mosts 0 (without + get_or mosts 0 0) 0 inside, i.kept 0 (omega arith)) refl
-  last few i (suc m) h = rw (get_or-set_other mosts 0 (suc m) (without + get_or mosts 0 0) 0 (λ same. omega arith)) (i.done (suc m) (omega arith) h)
+  last few i zero h = let inside : 0 < length mosts = omega arith in rw (get_or-set_same mosts 0 (get_or mosts 0 0 + without) 0 inside, i.kept 0 (omega arith)) (omega arith)
+  last few i (suc m) h = rw (get_or-set_other mosts 0 (suc m) (get_or mosts 0 0 + without) 0 (λ same. omega arith)) (i.done (suc m) (omega arith) h)
 
 pub loop-m-init : goal.loop-m-init
 loop-m-init c =
@@ -65,7 +65,7 @@ pub loop-m-preserved : goal.loop-m-preserved
 loop-m-preserved c =
     let at = c.loop-m in
     let m = at.m in
-    rw c.larger-best.ensures
+    rw c.max.ensures
     (turn c.args.carriers c.args.without.0 c.args.carrying.0 c.args.mosts.now at.mosts m (m - 1) (omega arith) (omega arith) at.invariant)
 
 pub overflow_add-mosts : goal.overflow_add-mosts
@@ -77,6 +77,6 @@ returns c =
     let at = c.loop-m in
     let over : at.m ≡ 0 = omega arith in
     record {
-      long = length-set at.mosts 0 (c.args.without.0 + get_or at.mosts 0 0) ∙ at.invariant.long;
+      long = length-set at.mosts 0 (get_or at.mosts 0 0 + c.args.without.0) ∙ at.invariant.long;
       each = last c.args.carriers c.args.without.0 c.args.carrying.0 c.args.mosts.now at.mosts (omega arith) (rw over at at.invariant);
     }

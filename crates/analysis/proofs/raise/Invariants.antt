@@ -16,6 +16,3 @@ pub record In (carriers without carrying : ℕ) (old mosts : List ℕ) (m : ℕ)
 
 abbrev pub invariant-loop-m : goal.invariant-loop-m
 invariant-loop-m l = In l.carriers l.without.0 l.carrying.0 l.initial.mosts l.mosts l.m
-
-abbrev pub decreases-loop-m : goal.decreases-loop-m
-decreases-loop-m l = l.m

@@ -1,5 +1,5 @@
--- taken_above keeps, for each number of carriers, the most that the rows passed take, and counts those with room. The
--- last row passed is the nearest, so it stands first in the list of the rows above.
+-- RowJudged::taken_above keeps, for each number of carriers, the most that the rows passed take, and counts those with
+-- room. The last row passed is the nearest, so it stands first in the list of the rows above.
 use Prim.Native.Nat.{ℕ, ◌-◌, ◌≤◌}
 use mathlib.Core.Path.{◌≡◌}
 use mathlib.Core.List.{List}
@@ -10,7 +10,7 @@ use Rattle.quantities.specs.declared.Ticks.{Ticks}
 use Rattle.windows.specs.Choice.{loads, most}
 use Rattle.windows.specs.Jump.{rooms, roomy, least_room}
 use Rattle.analysis.specs.Engine.{largest_window, above}
-use Rattle.analysis.proofs.taken_above.Given as goal
+use Rattle.analysis.proofs.RowJudged.taken_above.Given as goal
 
 pub record In (cores : ℕ) (table : Table) (bounds : List Ticks) (k own x : ℕ) (mosts : List ℕ) (count least i : ℕ) : Type 0 where
   pub le : i ≤ k
@@ -20,8 +20,6 @@ pub record In (cores : ℕ) (table : Table) (bounds : List Ticks) (k own x : ℕ
   pub counted : count ≡ roomy 1 (rooms own x (above table bounds i))
   pub smallest : least ≡ least_room largest_window (rooms own x (above table bounds i))
 
-abbrev pub invariant-loop-i : goal.invariant-loop-i
-invariant-loop-i l = In l.cores l.table l.bounds l.k l.own.0 l.window.0 l.mosts l.rooms.count l.rooms.least.0 l.i
-
-abbrev pub decreases-loop-i : goal.decreases-loop-i
-decreases-loop-i l = l.k - l.i
+abbrev pub invariant-loop-row : goal.invariant-loop-row
+invariant-loop-row l =
+    In l.self.cores l.self.table l.self.bounds l.self.k l.own.0 l.window.0 l.mosts l.rooms.count l.rooms.least.0 (length l.yielded)

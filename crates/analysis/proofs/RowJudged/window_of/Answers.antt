@@ -1,4 +1,5 @@
--- window_of searches upward by jumps; no window before the present one passes.
+-- RowJudged::window_of searches upward by jumps; no window before the present one passes.
+use Rattle.std.specs.Prelude.{None, Some}
 use Prim.Native.Nat.{ℕ, suc, ◌+◌, ◌-◌, ◌*◌, ◌/◌, ◌≤◌, ◌<◌, max}
 use native.Mathlib.Omega.{arith}
 use native.Mathlib.Nat.{le_trans, div-le_self}
@@ -16,11 +17,10 @@ use Rattle.windows.proofs.Jump.{next_means}
 use Rattle.windows.proofs.Room.{stride_le_top}
 use Rattle.windows.proofs.Far.{reach_jumps}
 use Rattle.windows.proofs.Bound.{window_some, window_none}
-use Rattle.analysis.specs.declared.Found.TheVariants.{At, Nothing}
 use Rattle.analysis.specs.Engine.{largest_window, above, found_of, TakenIs}
 use Rattle.analysis.proofs.Small.{few_above, most_small}
-use Rattle.analysis.proofs.window_of.Invariants.{In}
-use Rattle.analysis.proofs.window_of.Goals as goal
+use Rattle.analysis.proofs.RowJudged.window_of.Invariants.{In}
+use Rattle.analysis.proofs.RowJudged.window_of.Goals as goal
 
 -- One turn at the window x, when the rows above take so much and have room for this stride.
 module _ (cores own : ℕ) (rows : List Bounded) (x most_taken stride : ℕ) (some_cores : 0 < cores)
@@ -54,72 +54,68 @@ module _ (cores own : ℕ) (rows : List Bounded) (x most_taken stride : ℕ) (so
 
 -- The end of the search, at the window x.
 module _ (cores own top : ℕ) (rows : List Bounded) (x : ℕ) (inv : In cores own rows x) where
-  found : x ≤ top → Passes cores own rows x → At (ticks x) ≡ found_of (window cores own top rows)
+  found : x ≤ top → Passes cores own rows x → Some (ticks x) ≡ found_of (window cores own top rows)
   unfolding found_of
   found high holds =
       rw ((window_some cores own top rows x).1 (before_least inv.low high inv.before holds))
 
-  nothing : top < x → Nothing ≡ found_of (window cores own top rows)
+  nothing : top < x → None ≡ found_of (window cores own top rows)
   unfolding found_of
   nothing over = rw ((window_none cores own top rows).1 (before_none over inv.before))
 
 pub loop-x-init : goal.loop-x-init
 loop-x-init c = record { low = omega arith; before = before_start _ _ }
 
-pub taken_above-taken-requires : goal.taken_above-taken-requires
-taken_above-taken-requires c =
-    (c.requires.0, omega arith)
-
 pub overflow_add-next : goal.overflow_add-next
 overflow_add-next c =
-    let rows = above c.args.table c.args.bounds c.args.k in
+    let rows = above c.args.self.now.table c.args.self.now.bounds c.args.self.now.k in
     let at = c.loop-x in
     let taken = c.taken_above-taken in
-    let few = few_above c.args.table c.args.bounds c.args.k (omega arith) in
+    let few = few_above c.args.self.now.table c.args.self.now.bounds c.args.self.now.k (omega arith) in
     let share =
-    share_small c.args.cores c.args.own.0 rows at.x taken.result.most.0 taken.result.stride.0
-    c.requires.0.some_cores at.invariant taken.ensures few (omega arith) in
-    record { fits = omega arith }
+    share_small c.args.self.now.cores c.args.own.0 rows at.x taken.result.most.0 taken.result.stride.0
+    c.args.self.now.ready.some_cores at.invariant taken.ensures few (omega arith) in
+    rw c.from.ensures (record { fits = omega arith })
 
 pub returns-then-next-x : goal.returns-then-next-x
 returns-then-next-x c =
-    let rows = above c.args.table c.args.bounds c.args.k in
+    let rows = above c.args.self.now.table c.args.self.now.bounds c.args.self.now.k in
     let at = c.loop-x in
     let taken = c.taken_above-taken in
-    found c.args.cores c.args.own.0 c.args.top.0 rows at.x at.invariant (omega arith)
-    (stops c.args.cores c.args.own.0 rows at.x taken.result.most.0 taken.result.stride.0
-    c.requires.0.some_cores at.invariant taken.ensures c.if-next-x.true)
+    found c.args.self.now.cores c.args.own.0 c.args.top.0 rows at.x at.invariant (omega arith)
+    (stops c.args.self.now.cores c.args.own.0 rows at.x taken.result.most.0 taken.result.stride.0
+    c.args.self.now.ready.some_cores at.invariant taken.ensures (rw c.from.ensures at c.if-next-x.true))
 
 pub overflow_add-far : goal.overflow_add-far
 overflow_add-far c =
-    let rows = above c.args.table c.args.bounds c.args.k in
+    let rows = above c.args.self.now.table c.args.self.now.bounds c.args.self.now.k in
     let at = c.loop-x in
     let taken = c.taken_above-taken in
     let stride =
-    stride_small c.args.cores c.args.own.0 rows at.x taken.result.most.0 taken.result.stride.0
-    c.requires.0.some_cores at.invariant taken.ensures in
+    stride_small c.args.self.now.cores c.args.own.0 rows at.x taken.result.most.0 taken.result.stride.0
+    c.args.self.now.ready.some_cores at.invariant taken.ensures in
     record { fits = omega arith }
 
 pub overflow_add-far-in-loop-x : goal.overflow_add-far-in-loop-x
 overflow_add-far-in-loop-x c =
-    let rows = above c.args.table c.args.bounds c.args.k in
+    let rows = above c.args.self.now.table c.args.self.now.bounds c.args.self.now.k in
     let at = c.loop-x in
     let taken = c.taken_above-taken in
     let stride =
-    stride_small c.args.cores c.args.own.0 rows at.x taken.result.most.0 taken.result.stride.0
-    c.requires.0.some_cores at.invariant taken.ensures in
+    stride_small c.args.self.now.cores c.args.own.0 rows at.x taken.result.most.0 taken.result.stride.0
+    c.args.self.now.ready.some_cores at.invariant taken.ensures in
     record { fits = omega arith }
 
 pub loop-x-preserved : goal.loop-x-preserved
 loop-x-preserved c =
-    let rows = above c.args.table c.args.bounds c.args.k in
+    let rows = above c.args.self.now.table c.args.self.now.bounds c.args.self.now.k in
     let at = c.loop-x in
     let taken = c.taken_above-taken in
-    rw c.larger-x.ensures
-    (goes_on c.args.cores c.args.own.0 rows at.x taken.result.most.0 taken.result.stride.0
-    c.requires.0.some_cores at.invariant taken.ensures c.requires.0.range (omega arith))
+    rw (c.max-x.ensures, c.from.ensures)
+    (goes_on c.args.self.now.cores c.args.own.0 rows at.x taken.result.most.0 taken.result.stride.0
+    c.args.self.now.ready.some_cores at.invariant taken.ensures c.args.self.now.ready.range (rw c.from.ensures at c.if-next-x.false))
 
 pub returns : goal.returns
 returns c =
     let at = c.loop-x in
-    nothing c.args.cores c.args.own.0 c.args.top.0 (above c.args.table c.args.bounds c.args.k) at.x at.invariant (omega arith)
+    nothing c.args.self.now.cores c.args.own.0 c.args.top.0 (above c.args.self.now.table c.args.self.now.bounds c.args.self.now.k) at.x at.invariant (omega arith)
