@@ -34,6 +34,7 @@ pub enum Line {
         label: u32,
     },
     /// The one line of a sheet or a list that is turned away.
+    // Kept: document 01's number, which the line prints, as `Fault` and `SheetFault` have it.
     Refused {
         number: u32,
         place: usize,
@@ -41,8 +42,9 @@ pub enum Line {
 }
 
 impl Line {
-    /// Puts the line at the end of a page. No `Display`: what its `fmt` writes is known only where it answers `Ok`,
-    /// and no writer can say that it always does.
+    /// Puts the line at the end of a page.
+    // Kept: no `Display`, since `print_answer` can't fail and a `write!` promises nothing where it answers `Err`.
+    // Kept: a usize goes to u64 by a cast, since there is no `From` for it.
     #[tactic(auto, unfolding(crate::specs::Lines::line_text, crate::specs::Lines::first_line, crate::specs::Lines::row_line, crate::specs::Lines::shown_line, crate::specs::Lines::not_shown_line, crate::specs::Lines::refused_line))]
     pub fn print<const ROOM: usize>(self, page: &mut Page<ROOM>)
         requires { length page.old + line_room ≤ ROOM }

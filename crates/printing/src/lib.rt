@@ -10,7 +10,7 @@ use itoa::Buffer;
 use std::marker::Model;
 
 /// A text of at most `ROOM` bytes. It grows without an allocator, and a call that has room can't fail.
-#[derive(Debug, Default, Drop)]
+#[derive(Clone, Debug, Default, Drop)]
 pub struct Page<const ROOM: usize> {
     text: ArrayString<ROOM>,
 }
@@ -53,6 +53,7 @@ impl<const ROOM: usize> Page<ROOM> {
     }
 
     /// Puts the text into a lent buffer from a place on, and answers the next place.
+    // Kept: the place beside the buffer, by the edit lent_bytes_moved, which tells a lie only of a place behind 0.
     #[tactic(auto, unfolding(crate::specs::Buffer::overlaid))]
     pub fn put(&self, out: &mut [u8], at: usize) -> usize
         requires { at + ROOM ≤ length out.old }

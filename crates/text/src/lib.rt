@@ -101,6 +101,7 @@ fn answer_page(sheet: &[u8]) -> Page<TEXT_ROOM>
 pub fn print_answer(sheet: &[u8], out: &mut [u8]) -> usize
     ensures { Printed sheet.now out.old out.new result }
 {
+    // Kept: a count of 0, by this function's signature and the edit short_buffer_counts_as_text.
     if out.len() < TEXT_ROOM {
         return 0;
     }
