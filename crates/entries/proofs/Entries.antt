@@ -2,36 +2,16 @@
 use Prim.Native.Nat.{ℕ, suc, ◌+◌, ◌≤◌, ◌<◌}
 use native.Mathlib.Numerals.{add-one}
 use native.Mathlib.Omega.{arith}
-use mathlib.Core.Path.{◌≡◌}
-use mathlib.Core.Bool.{true}
+use mathlib.Core.Path.{◌≡◌, refl, ap}
+use mathlib.Core.Bool.{Bool, true, ◌||◌}
 use mathlib.Core.List.{List, [], ◌∷◌, ◌++◌, append_assoc}
-use lib.ListN.{length, get_or, take, drop, set, length-take, drop_of_length-le}
-use lib.Seq.{drop-cons, get_or-take, take-suc, take-suc-set, drop-set-lt, take-set-lt, set_split, slice, slice-cons, slice_empty}
+use Rattle.std.specs.List.{list_any}
+use lib.Dec.{eqb}
+use lib.ListN.{length, get_or, take, drop, set}
+use lib.Seq.{take-suc, take-suc-set, drop-set-lt, take-set-lt, set_split, slice, slice-cons, slice_empty}
 use borrow.Author.Tests.{eq-eqb, ne_eqb, lt-ltb, le-ltb}
-use Rattle.quantities.specs.Limits.{row_capacity}
-use Rattle.entries.specs.Entries.{no_entry, entries_of, used, inserted}
+use Rattle.entries.specs.Entries.{no_entry, used, inserted}
 use Rattle.records.specs.declared.RowFields.{RowFields}
-use Rattle.entries.specs.declared.Sheet.{Sheet}
-
-module _ (sheet : Sheet) (i : ℕ) where
-  -- the entries from a place on
-  pub entries_from : length sheet.entries ≡ row_capacity → i < sheet.count → i < row_capacity
-      → drop i (entries_of sheet) ≡ get_or sheet.entries i no_entry ∷ drop (suc i) (entries_of sheet)
-  unfolding entries_of
-  entries_from whole h k =
-      let l : i < length (take sheet.count sheet.entries) = omega (arith, length-take sheet.count sheet.entries) in
-      rw (drop-cons (take sheet.count sheet.entries) i no_entry l, get_or-take sheet.count sheet.entries i no_entry h)
-
-  -- no entry stands past the last
-  pub entries_end : sheet.count ≤ i → drop i (entries_of sheet) ≡ []
-  unfolding entries_of
-  entries_end h =
-      drop_of_length-le (take sheet.count sheet.entries) {i = i} (omega (arith, length-take sheet.count sheet.entries))
-
-  pub entries_room : length sheet.entries ≡ row_capacity → row_capacity ≤ i → drop i (entries_of sheet) ≡ []
-  unfolding entries_of
-  entries_room whole h =
-      drop_of_length-le (take sheet.count sheet.entries) {i = i} (omega (arith, length-take sheet.count sheet.entries))
 
 -- Whether a priority is used: the first entry has it, or those below it decide.
 module _ (priority : ℕ) (entry : RowFields) (entries : List RowFields) where
@@ -42,6 +22,12 @@ module _ (priority : ℕ) (entry : RowFields) (entries : List RowFields) where
   pub used_below : (entry.priority ≡ priority → ⊥) → used priority (entry ∷ entries) ≡ used priority entries
   unfolding used
   used_below other = simp (ne_eqb entry.priority priority other)
+
+-- so it is used where any entry has it
+pub used_is : (priority : ℕ) (entries : List RowFields) → used priority entries ≡ list_any (λ entry. eqb entry.priority priority) entries
+unfolding used
+used_is priority [] = refl
+used_is priority (entry ∷ entries) = ap (λ (b : Bool). eqb entry.priority priority || b) (used_is priority entries)
 
 -- Entries in which the first i of n have been passed, with `carried` still to go to its place among the others.
 unfoldable pub passing : ℕ → ℕ → List RowFields → RowFields → List RowFields

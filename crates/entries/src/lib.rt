@@ -10,7 +10,7 @@ use records::RowFields;
 
 // A board and its rows in rising priority, as their records say them: the first `count` entries; the capacity is the
 // table's own.
-#[derive(Clone, Copy)]
+#[derive(Clone, Copy, Debug, PartialEq, Eq)]
 pub struct Sheet {
     pub cores: u32,
     pub tick: Micros,
@@ -19,37 +19,36 @@ pub struct Sheet {
 }
 
 // A time in ticks: whole division by the tick length; a length of 0, which 19 turns away, gives 0.
+#[tactic(auto, unfolding(crate::specs::Entries::ticks_of))]
 fn to_ticks(time: Micros, tick: Micros) -> Ticks
     ensures { result ≡ ticks_of tick time }
 {
-    if tick.0 == 0 {
-        return Ticks(0);
-    }
-    Ticks(time.0 / tick.0)
+    Ticks(time.0.checked_div(tick.0).unwrap_or(0))
 }
 
 impl Sheet {
     // A row record's fields as a row of the table, its times in ticks of this length.
+    #[tactic(auto, unfolding(crate::specs::Entries::row_in))]
     pub fn row_in(fields: RowFields, tick: Micros) -> Row
         ensures { result ≡ row_in tick fields }
     {
-        let c = to_ticks(fields.c, tick);
-        let d = to_ticks(fields.d, tick);
-        let t = to_ticks(fields.t, tick);
-        Row { c: c, d: d, t: t }
+        Row {
+            c: to_ticks(fields.c, tick),
+            d: to_ticks(fields.d, tick),
+            t: to_ticks(fields.t, tick),
+        }
     }
 
     // The sheet of a board with no row yet.
+    #[tactic(auto, unfolding(crate::specs::Entries::board_sheet))]
     pub fn of_board(cores: u32, tick: Micros) -> Sheet
         ensures { result ≡ board_sheet cores tick }
     {
-        let none = RowFields::blank();
-        let entries = [none; Table::ROW_CAPACITY];
         Sheet {
-            cores: cores,
-            tick: tick,
+            cores,
+            tick,
             count: 0,
-            entries: entries,
+            entries: [RowFields::blank(); Table::ROW_CAPACITY],
         }
     }
 
@@ -57,72 +56,49 @@ impl Sheet {
     pub fn is_used(self, priority: u32) -> bool
         ensures { result ≡ used priority (entries_of self) }
     {
-        let mut i: usize = 0;
-        while i < Table::ROW_CAPACITY {
-            if self.count <= i {
-                return false;
-            }
-            let entry = self.entries[i];
-            if entry.priority == priority {
-                return true;
-            }
-            i += 1;
-        }
-        false
+        self.entries
+            .iter()
+            .take(self.count)
+            .any(|entry| entry.priority == priority)
     }
 
     // The sheet with one row more, at its place by priority; a full sheet stays as it is.
-    pub fn with_entry(self, new: RowFields) -> Sheet
+    #[tactic(auto, unfolding(crate::specs::Entries::with_entry))]
+    pub fn with_entry(mut self, new: RowFields) -> Sheet
         ensures { result ≡ with_entry self new }
     {
         let count = self.count;
-        if Table::ROW_CAPACITY <= count {
-            return self;
-        }
-        let mut entries = self.entries;
-        let mut carried = new;
-        let mut i: usize = 0;
-        while i < count {
-            let here = entries[i];
-            if carried.priority < here.priority {
-                entries[i] = carried;
-                carried = here;
+        if count < Table::ROW_CAPACITY {
+            let mut carried = new;
+            for i in 0..count {
+                let here = self.entries[i];
+                if carried.priority < here.priority {
+                    self.entries[i] = carried;
+                    carried = here;
+                }
             }
-            i += 1;
+            self.entries[count] = carried;
+            self.count = count + 1;
         }
-        entries[count] = carried;
-        let tick = self.tick;
-        let more = count + 1;
-        Sheet {
-            cores: self.cores,
-            tick: tick,
-            count: more,
-            entries: entries,
-        }
+        self
     }
 
     // The table of the sheet's rows in its own ticks.
+    #[tactic(auto, unfolding(crate::specs::Entries::table_of))]
     pub fn table(self) -> Table
         ensures { result ≡ table_of self }
     {
-        let tick = self.tick;
-        self.table_in(tick)
+        self.table_in(self.tick)
     }
 
     // The table of the sheet's rows in ticks of any length, in the order of the entries.
+    #[tactic(auto, unfolding(crate::specs::Entries::table_in))]
     pub fn table_in(self, tick: Micros) -> Table
         ensures { result ≡ table_in self tick }
     {
         let mut table = Table::empty();
-        let mut i: usize = 0;
-        while i < Table::ROW_CAPACITY {
-            if self.count <= i {
-                return table;
-            }
-            let entry = self.entries[i];
-            let row = Sheet::row_in(entry, tick);
-            table = table.with_row(row);
-            i += 1;
+        for entry in self.entries.iter().take(self.count) {
+            table = table.with_row(Sheet::row_in(*entry, tick));
         }
         table
     }

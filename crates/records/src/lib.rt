@@ -58,7 +58,7 @@ impl Kind {
 }
 
 // The fields of a row record, as they stand on the sheet.
-#[derive(Clone, Copy)]
+#[derive(Clone, Copy, Debug, PartialEq, Eq)]
 pub struct RowFields {
     pub label: u32,
     pub priority: u32,
@@ -84,7 +84,7 @@ impl RowFields {
 
 // What stands on the part of a sheet that begins where a record should: no byte, a kind that no record has,
 // a record of this kind that is cut short, or a whole record with its fields.
-#[derive(Clone, Copy)]
+#[derive(Clone, Copy, Debug, PartialEq, Eq)]
 pub enum Record {
     Missing,
     Unknown,

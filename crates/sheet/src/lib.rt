@@ -13,7 +13,7 @@ mod judge;
 
 // How far a sheet has been read: whether its board record was, and what the records so far gave.
 // Kept: a flag with a sheet beside it, since `record_checks` tells of the checks behind 13 also where no board was read.
-#[derive(Clone, Copy)]
+#[derive(Clone, Copy, Debug, PartialEq, Eq)]
 pub struct Reading {
     pub begun: bool,
     pub sheet: Sheet,
@@ -27,7 +27,7 @@ pub struct SheetFault {
 }
 
 // The first sheet that stands on some bytes and the place behind its end record, or a refusal with the empty sheet.
-#[derive(Clone, Copy)]
+#[derive(Clone, Copy, Debug, PartialEq, Eq)]
 pub struct FirstSheet {
     pub verdict: Result<(), SheetFault>,
     pub sheet: Sheet,
@@ -35,7 +35,7 @@ pub struct FirstSheet {
 }
 
 // The reader's answer. A refused sheet yields no table: its sheet is the empty one.
-#[derive(Clone, Copy)]
+#[derive(Clone, Copy, Debug, PartialEq, Eq)]
 pub struct Outcome {
     pub verdict: Result<(), SheetFault>,
     pub sheet: Sheet,

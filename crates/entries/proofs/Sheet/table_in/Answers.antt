@@ -1,31 +1,25 @@
--- Sheet::table_in answers the table of the sheet's rows in ticks of a length. The loop's invariant: the table has the rows of the entries passed.
-use native.Mathlib.Numerals.{add-one}
-use native.Mathlib.Omega.{arith}
-use mathlib.Core.Path.{sym, ap, ◌∙◌}
-use borrow.Author.Rules.{rules}
-use Rattle.entries.specs.Entries.{table_with, table_in}
-use Rattle.entries.proofs.Entries.{entries_from, entries_end, entries_room}
+-- Sheet::table_in answers the table of the sheet's rows in ticks of a length.
+use mathlib.Core.Path.{sym, ◌∙◌}
+use Rattle.std.proofs.lemmas.Iterator.{YieldsList-from_slice, YieldsList-from_take}
+use Rattle.std.proofs.lemmas.Iterator.Consumers.{YieldsList-turn, YieldsList-end}
+use Rattle.std.proofs.lemmas.List.{length_push}
+use Rattle.entries.specs.Entries.{entries_of}
+use Rattle.entries.proofs.Tables.{table_with_one, table_with_all}
 use Rattle.entries.proofs.Sheet.table_in.Goals as goal
 
-pub loop-i-init : goal.loop-i-init
-unfolding table_in
-loop-i-init c = (search rules, rw c.empty-table.ensures)
-
-pub returns-then-self-i : goal.returns-then-self-i
-unfolding table_with
-returns-then-self-i c =
-    let i = c.loop-i.i in
-    ap (table_with c.args.tick c.loop-i.table) (sym (entries_end c.args.self i c.if-self-i.true)) ∙ c.loop-i.invariant.1
-
-pub loop-i-preserved : goal.loop-i-preserved
-unfolding table_with
-loop-i-preserved c =
-    let l = c.loop-i in
-    let e = entries_from c.args.self l.i (omega arith) (omega arith) (omega arith) in
-    (omega arith, rw (add-one, c.with_row-table.ensures, c.row_in-row.ensures) (rw e at l.invariant.1))
+pub loop-entry-preserved : goal.loop-entry-preserved
+unfolding entries_of
+loop-entry-preserved c =
+    let self = c.args.self in
+    let l = c.loop-entry in
+    let t = YieldsList-turn (YieldsList-from_take self.count (YieldsList-from_slice self.entries cc) cc) l.yielded _ l.yielded_by _ _ c.in-Some.entry c.in-Some.is c.next.ensures.steps in
+    rw (c.with_row-table.ensures, c.row_in.ensures, length_push l.yielded c.in-Some.entry)
+    (table_with_one c.args.tick l.table (entries_of self) _ _ t.0 t.1 ∙ l.invariant)
 
 pub returns : goal.returns
-unfolding table_with
+unfolding entries_of
 returns c =
-    let i = c.loop-i.i in
-    ap (table_with c.args.tick c.loop-i.table) (sym (entries_room c.args.self i (omega arith) c.loop-i-test.false)) ∙ c.loop-i.invariant.1
+    let self = c.args.self in
+    let l = c.loop-entry in
+    let t = YieldsList-end (YieldsList-from_take self.count (YieldsList-from_slice self.entries cc) cc) l.yielded _ l.yielded_by _ _ c.in-None.is c.next.ensures.steps in
+    sym (table_with_all c.args.tick l.table (entries_of self) _ t.1) ∙ l.invariant
