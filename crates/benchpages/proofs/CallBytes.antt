@@ -23,10 +23,9 @@ use Rattle.bench.specs.Step.{empty_bench, opening_of, tick}
 use Rattle.bench.specs.History.{Call, releases, ticks, do_call, call_of, steps}
 use Rattle.bench.proofs.Steps.{release_no_polls}
 use Rattle.bench.proofs.Fits.{polls_fit}
-use Rattle.replay.specs.declared.Replayed.{Replayed}
-use Rattle.replay.specs.declared.Replayed.TheVariants.{NoRoom}
+use Rattle.replay.specs.declared.Unanswered.TheVariants.{NoRoom}
 use Rattle.replay.specs.Format.{request_of, polls_bytes, answer_bytes, answers_joined}
-use Rattle.replay.specs.Replay.{requests_in, Replay, ending, answered, replay_from, replay_after, replay}
+use Rattle.replay.specs.Replay.{requests_in, Replayed, Replay, ending, answered, replay_from, replay_after, replay}
 use Rattle.replay.proofs.Calls.{replay_run, replay_not_opened as not_opened}
 use Rattle.replay.proofs.Writes.{sets_append, length_polls}
 use Rattle.replay.proofs.Turns.{polls_few}
@@ -205,7 +204,7 @@ stops_at : (whole : Bool) (done rest : List Request) (next : Request) (b : Bench
     → at + length (answers_to b done) ≤ length out
     → length out < at + length (answers_to b (done ++ next ∷ []))
     → answered whole b (done ++ next ∷ rest) place at out
-    ≡ record { answer = NoRoom (place + 6 * length done); out = sets out at (answers_to b done) }
+    ≡ record { answer = Err (NoRoom (place + 6 * length done)); out = sets out at (answers_to b done) }
 unfolding answered
 stops_at whole [] rest next b place at out room none_left =
     let bytes = answer_bytes (do_call b (call_of next)) in
@@ -234,7 +233,7 @@ replay_no_room cores table inside calls out done rest next these room none_left 
         → length out < length (answers_to b (done ++ next ∷ []))
         → replay_from b calls out
         ≡ record {
-          answer = NoRoom (6 * length done);
+          answer = Err (NoRoom (6 * length done));
           out = answers_to b done ++ drop (length (answers_to b done)) out;
         }
     stopped b room none_left =

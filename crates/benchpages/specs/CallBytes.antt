@@ -1,5 +1,5 @@
 -- The bytes of a replay: a call in six, an answer in three and five for each poll that ended, read back.
-use Rattle.std.specs.Prelude.{ℕ, zero, suc, ◌+◌, ◌*◌, ◌≤◌, ◌<◌, ◌≡◌, true, false, List, [], ◌∷◌, ◌++◌, length, get_or, drop}
+use Rattle.std.specs.Prelude.{ℕ, zero, suc, ◌+◌, ◌*◌, ◌≤◌, ◌<◌, ◌≡◌, true, false, List, [], ◌∷◌, ◌++◌, length, get_or, drop, Ok, Err}
 use Rattle.laws.specs.Each.{Each}
 use Rattle.quantities.specs.Paper.{Paper}
 use Rattle.quantities.specs.declared.Table.{Table}
@@ -13,7 +13,7 @@ use Rattle.bench.specs.Refusal.{outcome_paper}
 use Rattle.bench.specs.Step.{release, tick}
 use Rattle.bench.specs.History.{Call, releases, ticks, do_call, call_of}
 use Rattle.replay.specs.Format.{poll_bytes, answer_bytes}
-use Rattle.replay.specs.declared.Replayed.TheVariants.{Done, NotOpened, NotACall, NoRoom}
+use Rattle.replay.specs.declared.Unanswered.TheVariants.{NotOpened, NotACall, NoRoom}
 use Rattle.replay.specs.Replay.{requests_in, Replay, replay}
 use Rattle.rowpages.specs.Lists.{list_order, fault_at, ListInRange}
 use Rattle.benchpages.specs.Calls.{new_bench}
@@ -111,9 +111,9 @@ pub record ReplayAnswers (b : Bench) (calls out : List ℕ) (done : Replay) : Ty
       done.out
       ≡ answers_to b (requests_in calls).list ++ drop (length (answers_to b (requests_in calls).list)) out
   pub all : (requests_in calls).whole ≡ true
-      → done.answer ≡ Done (length (answers_to b (requests_in calls).list))
+      → done.answer ≡ Ok (length (answers_to b (requests_in calls).list))
   pub no_call : (requests_in calls).whole ≡ false
-      → done.answer ≡ NotACall (6 * length (requests_in calls).list)
+      → done.answer ≡ Err (NotACall (6 * length (requests_in calls).list))
 
 abbrev pub ReplayAnswered : Type 0
 ReplayAnswered =
@@ -132,7 +132,7 @@ ReplayNoRoom =
     → length out < length (answers_to (new_bench cores table) (done ++ next ∷ []))
     → replay cores table calls out
     ≡ record {
-      answer = NoRoom (6 * length done);
+      answer = Err (NoRoom (6 * length done));
       out =
           answers_to (new_bench cores table) done ++ drop (length (answers_to (new_bench cores table) done)) out;
     }
@@ -143,4 +143,4 @@ ReplayNotOpened =
     (cores : ℕ) (table : Table) (one : Paper) → FirstFailing (list_order cores (rows_of table)) one
     → (calls out : List ℕ)
     → replay cores table calls out
-    ≡ record { answer = NotOpened (fault_at one.number one.place); out = out }
+    ≡ record { answer = Err (NotOpened (fault_at one.number one.place)); out = out }

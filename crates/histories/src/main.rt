@@ -4,7 +4,7 @@
 #![tactic(auto)]
 
 use quantities::{Fault, Row, Table, Ticks};
-use replay::Replayed;
+use replay::Unanswered;
 use std::io;
 use std::io::{Read, Stdout};
 use streams::{answer_frames, write_frame};
@@ -64,11 +64,13 @@ fn write_place(output: &mut Stdout, kind: u8, place: usize) -> io::Result<()> {
 fn run(output: &mut Stdout, board: Board, calls: &[u8]) -> io::Result<()> {
     let mut out = [0u8; ENDING_ROOM];
     match replay::replay(u32::from(board.cores), board.table, calls, &mut out[1..]) {
-        Replayed::Done(count) => write_frame(output, &out[..=count.min(ANSWER_ROOM)]),
-        Replayed::NotOpened(Fault::WholeList(number)) => write_fault(output, number, 0),
-        Replayed::NotOpened(Fault::OneRow(number, place)) => write_fault(output, number, place),
-        Replayed::NotACall(place) => write_place(output, 2, place),
-        Replayed::NoRoom(place) => write_place(output, 3, place),
+        Ok(count) => write_frame(output, &out[..=count.min(ANSWER_ROOM)]),
+        Err(Unanswered::NotOpened(Fault::WholeList(number))) => write_fault(output, number, 0),
+        Err(Unanswered::NotOpened(Fault::OneRow(number, place))) => write_fault(
+            output, number, place,
+        ),
+        Err(Unanswered::NotACall(place)) => write_place(output, 2, place),
+        Err(Unanswered::NoRoom(place)) => write_place(output, 3, place),
     }
 }
 

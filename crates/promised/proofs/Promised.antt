@@ -51,8 +51,7 @@ use Rattle.bench.specs.Ended.{finishes_of}
 use Rattle.bench.specs.Step.{opening_of, release, tick, released_of, ticked_of}
 use Rattle.bench.specs.History.{releases, ticks, do_call, call_of}
 use Rattle.bench.proofs.Steps.{release_no_polls}
-use Rattle.replay.specs.declared.Replayed.{Replayed}
-use Rattle.replay.specs.Replay.{Replay, replay}
+use Rattle.replay.specs.Replay.{Replayed, Replay, replay}
 use Rattle.rowpages.specs.Lists.{fault_at}
 use Rattle.rowpages.specs.Windows.{EveryRowShown, FirstRowNotShown, JudgedBy}
 use Rattle.rowpages.specs.Lent.{InEntries}

@@ -37,9 +37,8 @@ use Rattle.bench.specs.declared.Opening.{Opening}
 use Rattle.bench.specs.declared.Released.{Released}
 use Rattle.bench.specs.declared.Ticked.{Ticked as TickedBench}
 use Rattle.bench.specs.Refusal.{Outcome as CallOutcome, outcome_paper}
-use Rattle.replay.specs.declared.Replayed.{Replayed}
-use Rattle.replay.specs.declared.Replayed.TheVariants.{NotOpened, NoRoom}
-use Rattle.replay.specs.Replay.{requests_in}
+use Rattle.replay.specs.declared.Unanswered.TheVariants.{NotOpened, NoRoom}
+use Rattle.replay.specs.Replay.{Replayed, requests_in}
 use Rattle.sheetpages.specs.Sheets.{blank_entry, RisingPriority, RowInTicks, RowsInTicks, WholeWith, FirstFault}
 use Rattle.sheetpages.specs.Sheets.{SheetRead, TurnedAway}
 use Rattle.sheetpages.specs.SheetRecords.{BoardFits, RowFits, board_bytes, row_bytes, end_bytes}
@@ -270,11 +269,11 @@ pub record ReplayAnswer (cores : ℕ) (table : Table) (calls before after : List
       → (done rest : List Request) (next : Request) → (requests_in calls).list ≡ done ++ next ∷ rest
       → length (answers_to (new_bench cores table) done) ≤ length before
       → length before < length (answers_to (new_bench cores table) (done ++ next ∷ []))
-      → (r ≡ NoRoom (6 * length done))
+      → (r ≡ Err (NoRoom (6 * length done)))
       × (after
       ≡ answers_to (new_bench cores table) done ++ drop (length (answers_to (new_bench cores table) done)) before)
   pub not_opened : (one : Paper) → FirstFailing (list_order cores (rows_of table)) one
-      → (r ≡ NotOpened (fault_at one.number one.place)) × (after ≡ before)
+      → (r ≡ Err (NotOpened (fault_at one.number one.place))) × (after ≡ before)
 
 -- The rows of a table in range are judged where the bounds list has an entry for each: what is told is the
 -- answer, its bounds in the first of 32 entries, and how many they are.

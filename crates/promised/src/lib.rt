@@ -21,7 +21,7 @@ use entries::Sheet;
 use lentrows::Told;
 use quantities::{Fault, Instant, Micros, Row, Table, Ticks};
 use records::{Kind, Record, RowFields, UnknownKind};
-use replay::Replayed;
+use replay::Unanswered;
 use sheet::{FirstSheet, Outcome};
 
 pub fn read_sheet(sheet: &[u8]) -> Outcome
@@ -72,7 +72,12 @@ pub fn tick_bench(b: Bench) -> Ticked
     b.tick()
 }
 
-pub fn replay_calls(cores: u32, table: Table, calls: &[u8], out: &mut [u8]) -> Replayed
+pub fn replay_calls(
+    cores: u32,
+    table: Table,
+    calls: &[u8],
+    out: &mut [u8],
+) -> Result<usize, Unanswered>
     ensures { ReplayAnswer cores table calls.now out.old out.new result }
 {
     replay::replay(cores, table, calls, out)

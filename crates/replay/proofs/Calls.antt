@@ -1,12 +1,11 @@
 -- Laws of a replay: one call after the other, and that it is the run of the definition.
-use Rattle.std.specs.Prelude.{Ok, Err}
+use Rattle.std.specs.Prelude.{None, Some, Ok, Err}
 use Prim.Native.Nat.{ℕ, suc, ◌+◌, ◌*◌, ◌-◌, ◌≤◌, ◌<◌}
 use native.Mathlib.Omega.{arith}
 use native.Mathlib.Nat.{add-zero}
 use mathlib.Core.Path.{◌≡◌, sym, ap, ◌∙◌}
 use mathlib.Core.Bool.{Bool}
 use mathlib.Core.List.{List, [], ◌∷◌, ◌++◌, map}
-use mathlib.Core.Option.{none, some}
 use lib.ListN.{length, drop, length-drop, length-append, drop_of_length-le}
 use lib.Seq.{sets, length-sets, drop-drop}
 use borrow.Author.Tests.{lt-ltb, le-ltb}
@@ -21,7 +20,7 @@ use Rattle.bench.specs.declared.Request.{Request}
 use Rattle.bench.specs.Step.{Step, empty_bench, opening_of}
 use Rattle.bench.proofs.Open.{opening_sound}
 use Rattle.bench.specs.History.{do_call, call_of, steps}
-use Rattle.replay.specs.declared.Replayed.TheVariants.{Done, NotOpened, NotACall, NoRoom}
+use Rattle.replay.specs.declared.Unanswered.TheVariants.{NotOpened, NotACall, NoRoom}
 use Rattle.replay.specs.Format.{request_in, answer_bytes, answers_joined}
 use Rattle.replay.specs.Replay.{Requests, requests_in, Replay, ending, answered, replay_from, replay_after, replay}
 use Rattle.replay.proofs.Format.{requests_stop, requests_next}
@@ -45,15 +44,15 @@ with_room whole b request rest place at out h =
 
 -- One turn at a byte of the calls.
 module _ (calls : List ℕ) (b : Bench) (place at : ℕ) (out : List ℕ) where
-  pub no_call : place < length calls → request_in (drop place calls) ≡ none → replay_rest calls b place at out ≡ record { answer = NotACall place; out = out }
+  pub no_call : place < length calls → request_in (drop place calls) ≡ None → replay_rest calls b place at out ≡ record { answer = Err (NotACall place); out = out }
   unfolding answered
   no_call h e = rw (requests_stop (drop place calls) (omega (arith, length-drop place calls)) e)
 
-  module _ (request : Request) (e : request_in (drop place calls) ≡ some request) where
+  module _ (request : Request) (e : request_in (drop place calls) ≡ Some request) where
     abbrev step : Step
     step = do_call b (call_of request)
 
-    pub no_room : length out - at < length (answer_bytes step) → replay_rest calls b place at out ≡ record { answer = NoRoom place; out = out }
+    pub no_room : length out - at < length (answer_bytes step) → replay_rest calls b place at out ≡ record { answer = Err (NoRoom place); out = out }
     unfolding answered
     no_room h = rw ((requests_next (drop place calls) request e).1, answered, lt-ltb (length out - at) (length (answer_bytes step)) h)
 
@@ -69,7 +68,7 @@ module _ (calls : List ℕ) (b : Bench) (place at : ℕ) (out : List ℕ) where
         (sets out at (answer_bytes step)))
         (drop-drop 6 place calls)
 
-  pub all_done : length calls ≤ place → replay_rest calls b place at out ≡ record { answer = Done at; out = out }
+  pub all_done : length calls ≤ place → replay_rest calls b place at out ≡ record { answer = Ok at; out = out }
   unfolding answered requests_in
   all_done h = rw (drop_of_length-le calls {i = place} h)
 
@@ -92,7 +91,7 @@ replay_run whole (request ∷ rest) b place at out h =
 
 -- A replay whose bench does not open, and one whose bench does.
 module _ (cores : ℕ) (table : Table) (calls out : List ℕ) (r : Opening) (er : r ≡ opening_of cores table) where
-  pub replay_not_opened : (fault : Fault) → r.found ≡ Err fault → replay cores table calls out ≡ record { answer = NotOpened fault; out = out }
+  pub replay_not_opened : (fault : Fault) → r.found ≡ Err fault → replay cores table calls out ≡ record { answer = Err (NotOpened fault); out = out }
   unfolding opening_of replay replay_after
   replay_not_opened fault e = rw (checked_err (list_fault cores (rows_of table)) fault (sym (ap (λ o. o.found) er) ∙ e), replay_after)
 

@@ -1,4 +1,5 @@
 -- A whole replay: where the bytes are calls and there is room, the answers are those of the run of the definition.
+use Rattle.std.specs.Prelude.{Ok}
 use Prim.Native.Nat.{ℕ, ◌+◌, ◌≤◌}
 use native.Mathlib.Omega.{arith}
 use native.Mathlib.Nat.{zero-add}
@@ -13,7 +14,6 @@ use Rattle.bench.specs.declared.Bench.{Bench}
 use Rattle.bench.specs.Step.{opened}
 use Rattle.bench.specs.History.{call_of, steps}
 use Rattle.bench.proofs.Kept.{opened_empty}
-use Rattle.replay.specs.declared.Replayed.TheVariants.{Done}
 use Rattle.replay.specs.Replay.{requests_in, replay, replay_after, replay_from}
 use Rattle.replay.specs.Format.{answers_joined}
 use Rattle.replay.proofs.Calls.{replay_run}
@@ -25,7 +25,7 @@ answers_of b calls = answers_joined (steps b (map call_of (requests_in calls).li
 -- The buffer begins with the answers, and every byte after them is as it was.
 pub replay_is_run : (cores : ℕ) (table : Table) (b : Bench) → opened cores table ≡ some b → (calls out : List ℕ) → (requests_in calls).whole ≡ true
     → length (answers_of b calls) ≤ length out
-    → replay cores table calls out ≡ record { answer = Done (length (answers_of b calls)); out = answers_of b calls ++ drop (length (answers_of b calls)) out }
+    → replay cores table calls out ≡ record { answer = Ok (length (answers_of b calls)); out = answers_of b calls ++ drop (length (answers_of b calls)) out }
 unfolding replay replay_after
 replay_is_run cores table b o calls out whole fits =
     let (sound, same) = opened_empty cores table b o in

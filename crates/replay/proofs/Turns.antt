@@ -1,12 +1,12 @@
 -- A replay as the code's loop makes it: what holds before each turn, that a turn keeps it, and what it gives at each end.
+use Rattle.std.specs.Prelude.{None, Some, Ok, Err}
 use Prim.Native.Nat.{ℕ, suc, ◌+◌, ◌*◌, ◌-◌, ◌≤◌, ◌<◌}
 use native.Mathlib.Omega.{arith}
+use Rattle.std.proofs.lemmas.List.{take_all}
 use mathlib.Core.Path.{◌≡◌, refl, sym, ap, ◌∙◌}
 use mathlib.Core.List.{List}
-use mathlib.Core.Option.{Option, none, some}
 use lib.ListN.{length, take, drop, length-drop, length-take, replicate}
 use lib.Seq.{sets, length-sets, take-append_seam}
-use Rattle.laws.proofs.Tests.{not_one}
 use Rattle.quantities.specs.Limits.{row_capacity}
 use Rattle.quantities.proofs.Rows.{length_rows}
 use Rattle.bench.specs.declared.Bench.{Bench}
@@ -20,9 +20,8 @@ use Rattle.bench.specs.History.{Call, do_call, call_of}
 use Rattle.bench.proofs.State.{whole_of, sound_fits}
 use Rattle.bench.proofs.Serving.{finished_few, length_units}
 use Rattle.bench.proofs.Steps.{CallCase, refused, released, ticked, call_case}
-use Rattle.replay.specs.declared.Read.TheVariants.{Nothing as NoCall, Call as OneCall}
-use Rattle.replay.specs.declared.Replayed.TheVariants.{Done, NotACall, NoRoom}
-use Rattle.replay.specs.Format.{request_in, request_read, answer_of, answer_bytes}
+use Rattle.replay.specs.declared.Unanswered.TheVariants.{NotACall, NoRoom}
+use Rattle.replay.specs.Format.{request_in, answer_of, answer_bytes}
 use Rattle.replay.specs.Replay.{replay_from}
 use Rattle.replay.proofs.Format.{requests_next}
 use Rattle.replay.proofs.Writes.{counted, length_polls}
@@ -65,16 +64,10 @@ answer_says b call r e =
       bench = rw e;
     }
 
--- what reading says of the call
-read_some : (found : Option Request) (request : Request) → request_read found ≡ OneCall request → found ≡ some request
-unfolding request_read
-read_some none request e = absurd (not_one cc)
-read_some (some other) request e = cc
-
-read_none : (found : Option Request) → request_read found ≡ NoCall → found ≡ none
-unfolding request_read
-read_none none e = refl
-read_none (some other) e = absurd (not_one cc)
+-- the bytes from a place on, as the code lends them
+pub calls_from : (calls : List ℕ) (place : ℕ)
+    → request_in (drop place calls) ≡ request_in (take (length calls - place) (drop place calls))
+calls_from calls place = ap request_in (sym (take_all _ (drop place calls) (omega (arith, length-drop place calls))))
 
 -- Before the turn at byte `place` of the calls: replaying the rest from here is the whole replay.
 pub record Replays (b₀ : Bench) (calls out₀ out : List ℕ) (b : Bench) (place at : ℕ) : Type 0 where
@@ -87,27 +80,24 @@ pub replays_first : (b : Bench) (calls out : List ℕ) → Replays b calls out o
 replays_first b calls out = record { within = omega arith; room = omega arith; same_length = refl; rest = refl }
 
 module _ (b₀ : Bench) (calls out₀ out : List ℕ) (b : Bench) (place at : ℕ) (s : Replays b₀ calls out₀ out b place at) where
-  pub replays_no_call : place < length calls → request_read (request_in (drop place calls)) ≡ NoCall
-      → replay_from b₀ calls out₀ ≡ record { answer = NotACall place; out = out }
-  replays_no_call h e = sym s.rest ∙ no_call calls b place at out h (read_none (request_in (drop place calls)) e)
+  pub replays_no_call : place < length calls → request_in (drop place calls) ≡ None
+      → replay_from b₀ calls out₀ ≡ record { answer = Err (NotACall place); out = out }
+  replays_no_call h e = sym s.rest ∙ no_call calls b place at out h e
 
-  pub replays_last : length calls ≤ place → replay_from b₀ calls out₀ ≡ record { answer = Done at; out = out }
+  pub replays_last : length calls ≤ place → replay_from b₀ calls out₀ ≡ record { answer = Ok at; out = out }
   replays_last h = sym s.rest ∙ all_done calls b place at out h
 
-  module _ (request : Request) (e : request_read (request_in (drop place calls)) ≡ OneCall request) (r : Ticked) (er : r ≡ ticked_of (do_call b (call_of request))) where
-    abbrev found : request_in (drop place calls) ≡ some request
-    found = read_some (request_in (drop place calls)) request e
-
-    pub replays_no_room : length out - at < 3 + 5 * r.finishes.count → replay_from b₀ calls out₀ ≡ record { answer = NoRoom place; out = out }
+  module _ (request : Request) (e : request_in (drop place calls) ≡ Some request) (r : Ticked) (er : r ≡ ticked_of (do_call b (call_of request))) where
+    pub replays_no_room : length out - at < 3 + 5 * r.finishes.count → replay_from b₀ calls out₀ ≡ record { answer = Err (NoRoom place); out = out }
     replays_no_room h =
         let says = answer_says b (call_of request) r er in
-        sym s.rest ∙ no_room calls b place at out request found (rw says.size at h)
+        sym s.rest ∙ no_room calls b place at out request e (rw says.size at h)
 
     pub replays_next : 3 + 5 * r.finishes.count ≤ length out - at
         → (out' : List ℕ) → out' ≡ sets out at (answer_of r.outcome (counted r.finishes)) → Replays b₀ calls out₀ out' r.bench (place + 6) (at + (3 + 5 * r.finishes.count))
     replays_next h out' eo =
         let says = answer_says b (call_of request) r er in
-        let six = (requests_next (drop place calls) request found).0 in
+        let six = (requests_next (drop place calls) request e).0 in
         let same : out' ≡ sets out at (answer_bytes (do_call b (call_of request))) = eo ∙ ap (λ bytes. sets out at bytes) says.bytes in
         let n = length-sets out at (answer_bytes (do_call b (call_of request))) in
         let m : length out' ≡ length out = ap length same ∙ n in
@@ -115,5 +105,5 @@ module _ (b₀ : Bench) (calls out₀ out : List ℕ) (b : Bench) (place at : �
           within = omega (arith, length-drop place calls);
           room = omega (arith, s.room);
           same_length = m ∙ s.same_length;
-          rest = rw (says.bench, says.size, same) (sym (one_more calls b place at out request found (rw says.size at h)) ∙ s.rest);
+          rest = rw (says.bench, says.size, same) (sym (one_more calls b place at out request e (rw says.size at h)) ∙ s.rest);
         }

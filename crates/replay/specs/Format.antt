@@ -1,40 +1,32 @@
 -- The bytes of a replay: a call in six bytes, an answer in three and five more for each poll that ended.
-use Rattle.std.specs.Prelude.{ℕ, ◌+◌, ◌*◌, ◌/◌, ◌%◌, true, false, List, [], ◌∷◌, ◌++◌, eqb, length}
-use Rattle.std.proofs.Math.Option.{Option, none, some}
+use Rattle.std.specs.Prelude.{ℕ, ◌+◌, ◌*◌, ◌/◌, ◌%◌, true, false, List, [], ◌∷◌, ◌++◌, eqb, length, Option, None, Some}
 use Rattle.bench.specs.declared.Request.{Request}
 use Rattle.bench.specs.declared.Request.TheVariants.{Release, Tick}
 use Rattle.bench.specs.declared.Finish.{Finish}
 use Rattle.bench.specs.Refusal.{Outcome, outcome_paper}
 use Rattle.bench.specs.Step.{Step}
-use Rattle.replay.specs.declared.Read.{Read}
-use Rattle.replay.specs.declared.Read.TheVariants.{Nothing, Call}
 
 -- the request of six bytes: 2 for a tick, 1 for a release at a place with a demand of four bytes, most significant
 -- first
 unfoldable pub request_of : (kind place first second third fourth : ℕ) → Option Request
 request_of kind place first second third fourth =
     elim (eqb kind 2) [
-      | true ↦ some Tick
+      | true ↦ Some Tick
       | false ↦ elim (eqb kind 1) [
-        | true ↦ some (Release place (record { 0 = ((first * 256 + second) * 256 + third) * 256 + fourth }))
-        | false ↦ none
+        | true ↦ Some (Release place (record { 0 = ((first * 256 + second) * 256 + third) * 256 + fourth }))
+        | false ↦ None
       ]
     ]
 
 -- the request in the first six bytes of a list
 unfoldable pub request_in : List ℕ → Option Request
 request_in (kind ∷ place ∷ first ∷ second ∷ third ∷ fourth ∷ rest) = request_of kind place first second third fourth
-request_in (a ∷ b ∷ c ∷ d ∷ e ∷ []) = none
-request_in (a ∷ b ∷ c ∷ d ∷ []) = none
-request_in (a ∷ b ∷ c ∷ []) = none
-request_in (a ∷ b ∷ []) = none
-request_in (a ∷ []) = none
-request_in [] = none
-
--- as the code answers it
-unfoldable pub request_read : Option Request → Read
-request_read none = Nothing
-request_read (some request) = Call request
+request_in (a ∷ b ∷ c ∷ d ∷ e ∷ []) = None
+request_in (a ∷ b ∷ c ∷ d ∷ []) = None
+request_in (a ∷ b ∷ c ∷ []) = None
+request_in (a ∷ b ∷ []) = None
+request_in (a ∷ []) = None
+request_in [] = None
 
 -- the lowest byte of a number
 abbrev pub byte_of : ℕ → ℕ

@@ -1,6 +1,6 @@
 -- What a replay answers, and what it leaves in the lent buffer.
-use Rattle.std.specs.Prelude.{ℕ, ◌+◌, ◌-◌, Bool, true, false, List, [], ◌∷◌, ltb, length}
-use Rattle.std.proofs.Math.Option.{Option, none, some}
+use Rattle.std.specs.Prelude.{ℕ, ◌+◌, ◌-◌, Bool, true, false, List, [], ◌∷◌, ltb, length, Option, None, Some, Result, Ok, Err}
+use Rattle.std.proofs.Math.Option.{Option as Maybe, none, some}
 use Rattle.std.proofs.lemmas.List.Edits.{sets}
 use Rattle.quantities.specs.Table.{rows_of}
 use Rattle.quantities.specs.Checks.{list_fault}
@@ -10,8 +10,8 @@ use Rattle.bench.specs.declared.Bench.{Bench}
 use Rattle.bench.specs.declared.Request.{Request}
 use Rattle.bench.specs.Step.{empty_bench}
 use Rattle.bench.specs.History.{do_call, call_of}
-use Rattle.replay.specs.declared.Replayed.{Replayed}
-use Rattle.replay.specs.declared.Replayed.TheVariants.{Done, NotOpened, NotACall, NoRoom}
+use Rattle.replay.specs.declared.Unanswered.{Unanswered}
+use Rattle.replay.specs.declared.Unanswered.TheVariants.{NotOpened, NotACall, NoRoom}
 use Rattle.replay.specs.Format.{request_of, answer_bytes}
 
 -- The requests in a list of bytes, up to what is no call, and whether there is no such thing.
@@ -21,8 +21,8 @@ pub record Requests : Type 0 where
 
 -- one request more in front of those that follow
 abbrev pub in_front : Option Request → Requests → Requests
-in_front none later = record { list = []; whole = false }
-in_front (some request) later = record { list = request ∷ later.list; whole = later.whole }
+in_front None later = record { list = []; whole = false }
+in_front (Some request) later = record { list = request ∷ later.list; whole = later.whole }
 
 unfoldable pub requests_in : List ℕ → Requests
 requests_in (kind ∷ place ∷ first ∷ second ∷ third ∷ fourth ∷ rest) =
@@ -34,6 +34,10 @@ requests_in (a ∷ b ∷ []) = record { list = []; whole = false }
 requests_in (a ∷ []) = record { list = []; whole = false }
 requests_in [] = record { list = []; whole = true }
 
+-- how a replay ended: all calls answered, in this many bytes, or what was left unanswered
+abbrev pub Replayed : Type 0
+Replayed = Result ℕ Unanswered
+
 -- How a replay ended, and the buffer after it.
 pub record Replay : Type 0 where
   pub answer : Replayed
@@ -41,8 +45,8 @@ pub record Replay : Type 0 where
 
 -- the end of a replay at byte `place` of the calls and byte `at` of the buffer
 abbrev pub ending : (whole : Bool) → (place at : ℕ) → Replayed
-ending true place at = Done at
-ending false place at = NotACall place
+ending true place at = Ok at
+ending false place at = Err (NotACall place)
 
 -- the requests answered one after the other, as long as there is room
 unfoldable pub answered : Bool → Bench → List Request → (place at : ℕ) → List ℕ → Replay
@@ -50,7 +54,7 @@ answered whole b [] place at out = record { answer = ending whole place at; out 
 answered whole b (request ∷ rest) place at out =
     let step = do_call b (call_of request) in
     elim (ltb (length out - at) (length (answer_bytes step))) [
-      | true ↦ record { answer = NoRoom place; out = out }
+      | true ↦ record { answer = Err (NoRoom place); out = out }
       | false ↦
           answered whole step.bench rest (place + 6) (at + length (answer_bytes step))
           (sets out at (answer_bytes step))
@@ -60,8 +64,8 @@ answered whole b (request ∷ rest) place at out =
 abbrev pub replay_from : Bench → (calls out : List ℕ) → Replay
 replay_from b calls out = answered (requests_in calls).whole b (requests_in calls).list 0 0 out
 
-unfoldable pub replay_after : Option Fault → (cores : ℕ) → Table → (calls out : List ℕ) → Replay
-replay_after (some fault) cores table calls out = record { answer = NotOpened fault; out = out }
+unfoldable pub replay_after : Maybe Fault → (cores : ℕ) → Table → (calls out : List ℕ) → Replay
+replay_after (some fault) cores table calls out = record { answer = Err (NotOpened fault); out = out }
 replay_after none cores table calls out = replay_from (empty_bench cores table) calls out
 
 unfoldable pub replay : (cores : ℕ) → Table → (calls out : List ℕ) → Replay

@@ -1,5 +1,4 @@
 -- put_polls stores the bytes of the polls one after the other.
-use native.Mathlib.Omega.{arith}
 use Rattle.replay.proofs.Writes.{writes_first, writes_next, writes_last}
 use Rattle.replay.proofs.put_polls.Goals as goal
 
@@ -8,8 +7,8 @@ loop-i-init c = writes_first c.args.out.now c.args.from c.args.polls
 
 pub loop-i-preserved : goal.loop-i-preserved
 loop-i-preserved c =
-    writes_next c.args.out.now c.args.from c.args.polls c.loop-i.out c.loop-i.at c.loop-i.i c.loop-i.invariant (omega arith) (omega arith) c.put_poll.new.out c.put_poll.ensures
+    writes_next c.args.out.now c.args.from c.args.polls c.loop-i.out c.loop-i.i c.loop-i.invariant c.loop-i-test.true _ c.put_poll.new.out c.put_poll.ensures
 
 pub returns : goal.returns
 returns c =
-    writes_last c.args.out.now c.args.from c.args.polls c.loop-i.out c.loop-i.at c.loop-i.i c.loop-i.invariant (omega arith)
+    writes_last c.args.out.now c.args.from c.args.polls c.loop-i.out c.loop-i.i c.loop-i.invariant c.loop-i-test.false
