@@ -10,6 +10,7 @@ use records::RowFields;
 
 // A board and its rows in rising priority, as their records say them: the first `count` entries; the capacity is the
 // table's own.
+// Kept: an array with its count, since the page `SheetRead` names both and no function here is given memory.
 #[derive(Clone, Copy, Debug, PartialEq, Eq)]
 pub struct Sheet {
     pub cores: u32,

@@ -24,12 +24,14 @@ use records::{Kind, Record, RowFields, UnknownKind};
 use replay::Unanswered;
 use sheet::{FirstSheet, Outcome};
 
+#[tactic(auto, using(crate::proofs::Promised::sheet_answer))]
 pub fn read_sheet(sheet: &[u8]) -> Outcome
     ensures { SheetAnswer sheet.now result }
 {
     sheet::read(sheet)
 }
 
+#[tactic(auto, using(crate::proofs::Sheets::first_sheet_answer))]
 pub fn read_first_sheet(bytes: &[u8]) -> FirstSheet
     ensures { FirstSheetAnswer bytes.now result }
 {
@@ -152,30 +154,35 @@ pub fn is_broken(b: Bench) -> bool
     b.broken()
 }
 
+#[tactic(auto, using(crate::proofs::Promised::kind_answer))]
 pub fn kind_of_byte(byte: u8) -> Result<Kind, UnknownKind>
     ensures { KindAnswer byte result }
 {
     Kind::try_from(byte)
 }
 
+#[tactic(auto, using(crate::proofs::Promised::record_answer))]
 pub fn record_at(part: &[u8]) -> Record
     ensures { RecordAnswer part.now result }
 {
     records::record_on(part)
 }
 
+#[tactic(auto, using(crate::proofs::Promised::size_answer))]
 pub fn record_size(part: &[u8]) -> usize
     ensures { result ≡ size_is part.now }
 {
     records::size_on(part)
 }
 
+#[tactic(auto, using(crate::proofs::Promised::end_answer))]
 pub fn is_end(found: Record) -> bool
     ensures { EndAnswer found result }
 {
     records::is_end(found)
 }
 
+#[tactic(auto, using(crate::proofs::Sheets::no_entries))]
 pub fn board_sheet(cores: u32, tick: Micros) -> Sheet
     ensures { NoEntries cores tick result }
 {
@@ -188,24 +195,28 @@ pub fn is_used(sheet: Sheet, priority: u32) -> bool
     sheet.is_used(priority)
 }
 
+#[tactic(auto, using(crate::proofs::Sheets::entry_answer))]
 pub fn add_entry(sheet: Sheet, new: RowFields) -> Sheet
     ensures { EntryAnswer sheet new result }
 {
     sheet.with_entry(new)
 }
 
+#[tactic(auto, using(crate::proofs::Sheets::rows_of_entries, crate::proofs::Sheets::table_own))]
 pub fn table_of(sheet: Sheet) -> Table
     ensures { RowsOfEntries sheet sheet.tick result }
 {
     sheet.table()
 }
 
+#[tactic(auto, using(crate::proofs::Sheets::rows_of_entries))]
 pub fn table_in_ticks(sheet: Sheet, tick: Micros) -> Table
     ensures { RowsOfEntries sheet tick result }
 {
     sheet.table_in(tick)
 }
 
+#[tactic(auto, using(crate::proofs::Sheets::row_answer))]
 pub fn row_in_ticks(fields: RowFields, tick: Micros) -> Row
     ensures { RowAnswer fields tick result }
 {

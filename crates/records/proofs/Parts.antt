@@ -71,19 +71,6 @@ module _ (part rest : List ℕ) where
       on_board (part ++ rest) (kind_front (omega arith) ∙ one.of_kind) (omega (arith, long_front))
       ∙ rw (field_front 1 1 (omega arith), field_front 2 2 (omega arith))
 
-  pub row_front : RowRecord part → record_on (part ++ rest) ≡ Row (row_fields part)
-  row_front one =
-      let some : 0 < length part = omega (arith, one.in_full, row_some (kind_on part) one.is_row) in
-      let size = size_front some in
-      on_row (part ++ rest) (ap is_row_kind (kind_front some) ∙ one.is_row) (omega (arith, one.in_full, long_front))
-      ∙ ap Row (fields_front one.is_row (omega (arith, one.in_full)))
-
-  pub end_front : OneRecord end_kind part → record_on (part ++ rest) ≡ End (count_on part)
-  end_front one =
-      let l : length part ≡ end_length = one.in_full ∙ length_end in
-      on_end (part ++ rest) (kind_front (omega arith) ∙ one.of_kind) (omega (arith, long_front))
-      ∙ ap End (field_front 1 1 (omega arith))
-
   -- a whole record is the same, whatever stands behind it
   pub on_front : 0 < size_on part → size_on part ≤ length part → record_on (part ++ rest) ≡ record_on part
   on_front some long = go (record_on part) (found part)
@@ -169,16 +156,6 @@ module _ (part : List ℕ) where
       let one = front_row is long in
       ap row_fields (sym (take-append-drop (size_on part) part))
       ∙ fields_front (take (size_on part) part) (drop (size_on part) part) one.is_row (omega (arith, one.in_full))
-
-  pub front_end : kind_on part ≡ end_kind → end_length ≤ length part → OneRecord end_kind (take end_length part)
-  front_end kind long =
-      record {
-        of_kind = front_kind end_length (omega arith) ∙ kind;
-        in_full = omega (arith, length-take end_length part, length_end);
-      }
-
-  pub front_count : end_length ≤ length part → count_on part ≡ count_on (take end_length part)
-  front_count long = front_field 1 1 end_length (omega arith) long
 
 -- The record on a part is the one on its first bytes, where these are as many as the longest record has.
 module _ (part : List ℕ) (k : ℕ) (h : longest_record ≤ k) where

@@ -146,6 +146,7 @@ pub fn record_on(part: &[u8]) -> Record
 
 // How many bytes the record on a part takes: the length that its kind fixes, also where it is cut short; 0 where there
 // is no byte, or a kind that no record has.
+// Kept: 0 and no Option, since `size_is` of the promises and edit no_byte_takes_one say so.
 #[tactic(auto, using(crate::proofs::Records::size_none))]
 pub fn size_on(part: &[u8]) -> usize
     ensures { result ≡ size_on part.now }

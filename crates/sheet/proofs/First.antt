@@ -263,7 +263,7 @@ by_first bytes = go (first_sheet_of bytes).verdict refl
   where
     go : (v : Verdict) → (first_sheet_of bytes).verdict ≡ v → ByFirst bytes (read_of bytes)
     go (Err one) s =
-        rw (← answer_refused bytes (first_sheet_of bytes) refl one.number one.place s) (none_read one.number one.place s)
+        rw (← answer_refused bytes (first_sheet_of bytes) refl one s) (none_read one.number one.place s)
     go (Ok _) s =
         elim (dec_le (length bytes) (first_sheet_of bytes).end) [
           | yes h ↦ rw (first_all bytes s h) (all_read s h)

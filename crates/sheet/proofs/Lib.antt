@@ -1,6 +1,7 @@
 -- Laws of the sheet's definitions.
 pub mod Checks
 pub mod Reader
+pub mod Turns
 pub mod Faults
 pub mod Readings
 pub mod Accepted

@@ -134,7 +134,7 @@ whole_sheet_is_first = sound_first
 
 pub first_sheet_refused : FirstSheetRefused
 first_sheet_refused bytes number place e =
-    (first_refused_whole bytes number place e, sym (answer_refused bytes (first_sheet_of bytes) refl number place e))
+    (first_refused_whole bytes number place e, sym (answer_refused bytes (first_sheet_of bytes) refl (fault number place) e))
 
 pub refused_behind_the_first : RefusedBehindTheFirst
 refused_behind_the_first bytes number place e = refused_by_first bytes (read_of bytes) (by_first bytes) number place e

@@ -18,6 +18,7 @@ use Rattle.sheet.specs.Reader.{new_reading, after_record, refused, whole}
 use Rattle.sheet.specs.Reader.{unread, ended, first_from, first_sheet_of, closed, read_of}
 use Rattle.entries.specs.declared.Sheet.{Sheet}
 use Rattle.sheet.specs.declared.Reading.{Reading}
+use Rattle.sheet.specs.declared.SheetFault.{SheetFault}
 use Rattle.sheet.specs.Checks.{Verdict, fault}
 use Rattle.std.specs.Prelude.{Ok, Err}
 use Rattle.sheet.specs.declared.FirstSheet.{FirstSheet}
@@ -199,10 +200,10 @@ read_of_lem bytes = ap (λ (n : ℕ). closed n (first_from (suc (length bytes)) 
 
 -- The answer of a sheet, by the first sheet on its bytes.
 module _ (bytes : List ℕ) (first : FirstSheet) (is : first ≡ first_sheet_of bytes) where
-  pub answer_refused : (number place : ℕ) → first.verdict ≡ Err (fault number place) → refused number place ≡ read_of bytes
+  pub answer_refused : (why : SheetFault) → first.verdict ≡ Err why → refused why.number why.place ≡ read_of bytes
   unfolding read_of closed
-  answer_refused number place e =
-      let here : closed (length bytes) first ≡ refused number place = rw (e, closed) refl in
+  answer_refused why e =
+      let here : closed (length bytes) first ≡ refused why.number why.place = rw (e, closed) refl in
       sym here ∙ ap (closed (length bytes)) is
 
   pub answer_more : first.verdict ≡ Ok tt → first.end < length bytes → refused 18 first.end ≡ read_of bytes

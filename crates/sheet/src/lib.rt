@@ -27,6 +27,7 @@ pub struct SheetFault {
 }
 
 // The first sheet that stands on some bytes and the place behind its end record, or a refusal with the empty sheet.
+// Kept: a sheet and an end beside the verdict, since edits refusal_with_an_end and refused_first_sheet_has_an_end hold them.
 #[derive(Clone, Copy, Debug, PartialEq, Eq)]
 pub struct FirstSheet {
     pub verdict: Result<(), SheetFault>,
@@ -35,6 +36,7 @@ pub struct FirstSheet {
 }
 
 // The reader's answer. A refused sheet yields no table: its sheet is the empty one.
+// Kept: a sheet beside the verdict, since `NoTableRefused` and edit refused_sheet_with_rows say which one a refusal has.
 #[derive(Clone, Copy, Debug, PartialEq, Eq)]
 pub struct Outcome {
     pub verdict: Result<(), SheetFault>,
@@ -98,6 +100,7 @@ fn no_first(fault: SheetFault) -> FirstSheet
 }
 
 // The first sheet that stands on some bytes, and where it ends; what stands behind its end record does not count.
+#[tactic(auto, using(crate::proofs::Checks::not_refused, crate::proofs::Reader::reads_new, crate::proofs::Turns::turn_goes_on))]
 pub fn read_first(bytes: &[u8]) -> FirstSheet
     ensures { result ≡ first_sheet_of bytes.now }
 {
@@ -123,6 +126,7 @@ pub fn read_first(bytes: &[u8]) -> FirstSheet
 }
 
 // The whole sheet's answer: the board with its rows in rising priority, or a refusal's number and place.
+#[tactic(auto, using(crate::proofs::Checks::not_refused, crate::proofs::Reader::answer_refused, crate::proofs::Reader::answer_more, crate::proofs::Reader::answer_whole), unfolding(crate::specs::Reader::whole))]
 pub fn read(sheet: &[u8]) -> Outcome
     ensures { result ≡ read_of sheet.now }
 {
