@@ -8,7 +8,7 @@ ghost use Rattle.quantities.specs.Lengths.{numbers};
 
 use entries::Sheet;
 use printing::Page;
-use quantities::{Micros, Table, Ticks};
+use quantities::{Micros, Ticks};
 
 /// A line of the text.
 #[derive(Clone, Copy, Debug, PartialEq, Eq)]
@@ -85,25 +85,23 @@ impl Line {
     }
 }
 
-/// Puts the lines of the first rows, this many, of a sheet, with their bounds, at the end of a page.
+/// Puts the lines of the first rows of a sheet, one for each of these bounds, at the end of a page.
 #[tactic(auto, using(crate::proofs::Lines::row_steps), unfolding(crate::specs::Lines::line_text, crate::specs::Lines::row_lines))]
-pub fn print_rows<const ROOM: usize>(
-    page: &mut Page<ROOM>,
-    sheet: Sheet,
-    bounds: [Ticks; Table::ROW_CAPACITY],
-    count: usize,
-)
-    requires rows { count ≤ row_capacity }
-    requires room { length page.old + count * line_room ≤ ROOM }
-    ensures printed { page.new ≡ page.old ++ row_lines sheet.tick sheet.entries (numbers bounds) count }
-    ensures short { length (row_lines sheet.tick sheet.entries (numbers bounds) count) ≤ count * line_room }
+pub fn print_rows<const ROOM: usize>(page: &mut Page<ROOM>, sheet: Sheet, bounds: &[Ticks])
+    requires rows { length bounds.now ≤ row_capacity }
+    requires room { length page.old + length bounds.now * line_room ≤ ROOM }
+    ensures printed { page.new ≡ page.old
+        ++ row_lines sheet.tick sheet.entries (numbers bounds.now) (length bounds.now) }
+    ensures short { length (row_lines sheet.tick sheet.entries (numbers bounds.now) (length bounds.now))
+        ≤ length bounds.now * line_room }
 {
-    for (i, entry) in sheet.entries[..count].iter().enumerate() {
-        let row = Sheet::row_in(*entry, sheet.tick);
+    for (i, bound) in bounds.iter().enumerate() {
+        let entry = sheet.entries[i];
+        let row = Sheet::row_in(entry, sheet.tick);
         Line::Row {
             place: i + 1,
             label: entry.label,
-            bound: bounds[i],
+            bound: *bound,
             deadline: row.d,
         }
         .print(page);

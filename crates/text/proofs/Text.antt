@@ -16,7 +16,10 @@ use Rattle.quantities.specs.declared.Fault.{Fault}
 use Rattle.quantities.proofs.Sound.{sound_list_means}
 use Rattle.quantities.proofs.Rows.{length_rows}
 use Rattle.quantities.specs.Paper.{fault_paper}
-use Rattle.quantities.specs.Lengths.{numbers}
+use Rattle.quantities.specs.Lengths.{numbers, in_array}
+use Rattle.quantities.specs.declared.Ticks.{Ticks}
+use Rattle.quantities.proofs.Lengths.{found_are}
+use Rattle.laws.proofs.Lists.{map_take}
 use Rattle.windows.specs.Answer.{Judged, late_number, judged}
 use Rattle.windows.specs.Judgement.{AllShown, FirstNotShown}
 use Rattle.windows.specs.declared.Answer.{Answer}
@@ -33,7 +36,6 @@ use Rattle.std.specs.Prelude.{Ok, Err}
 use Rattle.sheet.specs.declared.SheetFault.{SheetFault}
 use Rattle.sheet.specs.Checks.{Verdict}
 use Rattle.lines.specs.Lines.{shown_line, not_shown_line, refused_line}
-use Rattle.lines.proofs.Lines.{lines_in_array}
 use Rattle.text.specs.Text.{lines_up_to, bound_lines, label_at, paper_line, judged_text, sheet_text, outcome_text, text_of}
 
 module _ (M : ℕ) (rows : List Row) where
@@ -70,7 +72,7 @@ module _ (M : ℕ) (rows : List Row) where
 
 -- the lines that the code prints before the last one, k of them row lines
 abbrev pub lines_before : Sheet → Table → Analysis → ℕ → List ℕ
-lines_before sheet table analysis k = lines_up_to sheet table.count (numbers analysis.bounds) k
+lines_before sheet table analysis k = lines_up_to sheet table.count (numbers (take k analysis.bounds)) k
 
 -- the text by the analysis of the sheet's table
 module _ (sheet : Sheet) (table : Table) (analysis : Analysis) (tabled : table ≡ table_of sheet)
@@ -82,10 +84,14 @@ module _ (sheet : Sheet) (table : Table) (analysis : Analysis) (tabled : table �
   unfolding analysis_of
   answer_is = sym (ap (λ (x : Analysis). x.answer) judges)
 
-  lines_are : bound_lines sheet (rows_of table) found.bounds ≡ lines_before sheet table analysis (length found.bounds)
+  -- the first bounds of the analysis, as many as the rules give, are these
+  lines_are : (k : ℕ) → length found.bounds ≡ k
+      → bound_lines sheet (rows_of table) found.bounds ≡ lines_before sheet table analysis k
   unfolding bound_lines analysis_of
-  lines_are =
-      rw (length_rows table, ap (λ (x : Analysis). x.bounds) judges, lines_in_array sheet.tick sheet.entries found.bounds (length found.bounds)) refl
+  lines_are k as_many =
+      let front : numbers (take k analysis.bounds) ≡ found.bounds =
+      rw (ap (λ (x : Analysis). x.bounds) judges, map_take (λ (t : Ticks). t.0) k (in_array found.bounds), ← as_many) (found_are found.bounds) in
+      rw (length_rows table, front, as_many) refl
 
   text_is : (answer : Answer) → analysis.answer ≡ answer
       → sheet_text sheet ≡ judged_text sheet (rows_of table) (record { answer = answer; bounds = found.bounds })
@@ -100,7 +106,7 @@ module _ (sheet : Sheet) (table : Table) (analysis : Analysis) (tabled : table �
   unfolding judged_text
   text_shown e =
       let same : length found.bounds ≡ table.count = (shown_counts sheet.cores (rows_of table) (answer_is ∙ e)).0 ∙ length_rows table in
-      text_is Shown e ∙ rw (lines_are, same) refl
+      text_is Shown e ∙ rw (lines_are table.count same) refl
 
   -- a row not shown: the lines of those before it
   pub before_not_shown : {number place : ℕ} → analysis.answer ≡ NotShown number place
@@ -115,7 +121,7 @@ module _ (sheet : Sheet) (table : Table) (analysis : Analysis) (tabled : table �
   text_not_shown {number} {place} e =
       let same : length found.bounds ≡ place - 1 =
       omega (arith, (not_shown_counts sheet.cores (rows_of table) number place (answer_is ∙ e)).0) in
-      text_is (NotShown number place) e ∙ rw (lines_are, same) refl
+      text_is (NotShown number place) e ∙ rw (lines_are (place - 1) same) refl
 
   pub text_refused : {fault : Fault} → analysis.answer ≡ Refused fault → sheet_text sheet ≡ paper_line (fault_paper fault)
   unfolding judged_text

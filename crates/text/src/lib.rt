@@ -1,7 +1,7 @@
 //! The text of a sheet's answer, as the program prints it: document 01, "One sheet through the program".
 #![tactic(auto)]
 
-ghost use Rattle.std.specs.Prelude.{◌≡◌, ◌≤◌, ◌++◌};
+ghost use Rattle.std.specs.Prelude.{◌≡◌, ◌≤◌, ◌++◌, take};
 ghost use Rattle.quantities.specs.Limits.{row_capacity};
 ghost use Rattle.quantities.specs.Paper.{fault_paper};
 ghost use Rattle.quantities.specs.Lengths.{numbers};
@@ -9,7 +9,7 @@ ghost use Rattle.lines.specs.Lines.{line_text};
 ghost use Rattle.text.specs.Text.{lines_up_to, paper_line, sheet_text, text_of};
 ghost use Rattle.text.specs.Printed.{Printed};
 
-use analysis::analyse;
+use analysis::{Analysis, analyse};
 use entries::Sheet;
 use lines::{Line, print_rows};
 use printing::Page;
@@ -50,7 +50,7 @@ fn bound_page(
     last: Line,
 ) -> Page<TEXT_ROOM>
     requires { count ≤ row_capacity }
-    ensures { result ≡ lines_up_to sheet rows (numbers bounds) count ++ line_text last }
+    ensures { result ≡ lines_up_to sheet rows (numbers (take count bounds)) count ++ line_text last }
 {
     let mut page = Page::default();
     Line::First {
@@ -59,7 +59,7 @@ fn bound_page(
         rows,
     }
     .print(&mut page);
-    print_rows(&mut page, sheet, bounds, count);
+    print_rows(&mut page, sheet, &bounds[..count]);
     last.print(&mut page);
     page
 }
@@ -70,9 +70,8 @@ fn sheet_page(sheet: Sheet) -> Page<TEXT_ROOM>
 {
     let table = sheet.table();
     let rows = table.count;
-    let analysis = analyse(sheet.cores, table);
-    let bounds = analysis.bounds;
-    match analysis.answer {
+    let Analysis { answer, bounds } = analyse(sheet.cores, table);
+    match answer {
         Answer::Shown => bound_page(sheet, rows, bounds, rows, Line::Shown),
         Answer::NotShown(_, place) => {
             let before = place - 1;

@@ -6,5 +6,5 @@ use Rattle.lines.proofs.print_rows.Given as goal
 
 abbrev pub invariant-loop-i : goal.invariant-loop-i
 invariant-loop-i g l =
-    (l.page ≡ l.initial.page ++ row_lines l.fn.sheet.tick l.fn.sheet.entries (numbers l.fn.bounds) l.i) ×
-    (length (row_lines l.fn.sheet.tick l.fn.sheet.entries (numbers l.fn.bounds) l.i) ≤ l.i * line_room)
+    (l.page ≡ l.initial.page ++ row_lines l.sheet.tick l.sheet.entries (numbers l.bounds) l.i) ×
+    (length (row_lines l.sheet.tick l.sheet.entries (numbers l.bounds) l.i) ≤ l.i * line_room)
