@@ -26,6 +26,7 @@ pub struct RowState {
 }
 
 // A board being run: its cores and table, the present instant, and a state for each row of the table.
+// Kept: a rule of the project hands the table on by value, so the states stand beside its rows and not in them.
 #[derive(Clone, Copy, Debug, PartialEq, Eq)]
 pub struct Bench {
     pub cores: u32,
@@ -60,6 +61,7 @@ pub struct Finish {
 }
 
 // The polls that ended in a tick, in rising place; entries from `count` on are blank.
+// Kept: the pages' ListsPolls and polls_in name the count and the list.
 #[derive(Clone, Copy, Debug, PartialEq, Eq)]
 pub struct Finishes {
     pub count: usize,
@@ -67,6 +69,7 @@ pub struct Finishes {
 }
 
 // The answer to an opening: what checks 1 to 6 found and, where they found nothing, the bench at instant 0.
+// Kept: the page's NotOpened says which bench stands where none is opened, and refused_opening_answers_calls denies it.
 #[derive(Clone, Copy, Debug, PartialEq, Eq)]
 pub struct Opening {
     pub found: Result<(), Fault>,
@@ -74,6 +77,7 @@ pub struct Opening {
 }
 
 // The answer to a release, and the bench after it.
+// Kept: the page's ReleaseAnswer says that a refused release hands back the bench as it was.
 #[derive(Clone, Copy, Debug, PartialEq, Eq)]
 pub struct Released {
     pub outcome: Result<(), Refusal>,
@@ -81,6 +85,7 @@ pub struct Released {
 }
 
 // The answer to a tick, and the bench after it.
+// Kept: the page's TickTurnedAway says which bench and which polls a refused tick hands back.
 #[derive(Clone, Copy, Debug, PartialEq, Eq)]
 pub struct Ticked {
     pub outcome: Result<(), Refusal>,
@@ -214,13 +219,9 @@ impl Bench {
     pub fn broken(self) -> bool
         ensures { result ≡ broken self }
     {
-        if let Err(_) = self.table.check(self.cores) {
-            return true;
-        }
-        if Bench::LAST_INSTANT < self.now.0 {
-            return true;
-        }
-        rows_broken(self)
+        self.table.check(self.cores).is_err()
+            || Bench::LAST_INSTANT < self.now.0
+            || rows_broken(self)
     }
 
     // Whether a release of `demand` at `place` is taken, or refused: the first of 29, 20, 23, 22, 21 decides.

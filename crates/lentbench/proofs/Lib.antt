@@ -1,2 +1,3 @@
 -- Laws of calls on a lent bench.
 pub mod Lent
+mod Runs
