@@ -22,5 +22,5 @@ fn write_answer(output: &mut Stdout, sheet: &[u8]) -> io::Result<()> {
 // Where a write fails there is nobody to tell: the program ends as it does with its input.
 fn main(rt: HostRuntime) {
     let mut output = rt.stdout();
-    let _ = answer_frames(rt.stdin(), |sheet| write_answer(&mut output, sheet));
+    let _ = answer_frames(&mut rt.stdin(), |sheet| write_answer(&mut output, sheet));
 }

@@ -86,5 +86,8 @@ fn answer_history(output: &mut Stdout, frame: &[u8]) -> io::Result<()> {
 // Where a write fails there is nobody to tell: the program ends as it does with its input.
 fn main(rt: HostRuntime) {
     let mut output = rt.stdout();
-    let _ = answer_frames(rt.stdin(), |history| answer_history(&mut output, history));
+    let _ = answer_frames(
+        &mut rt.stdin(),
+        |history| answer_history(&mut output, history),
+    );
 }

@@ -101,5 +101,5 @@ fn answer_frame(output: &mut Stdout, frame: &[u8]) -> io::Result<()> {
 // Where a write fails there is nobody to tell: the program ends as it does with its input.
 fn main(rt: HostRuntime) {
     let mut output = rt.stdout();
-    let _ = answer_frames(rt.stdin(), |frame| answer_frame(&mut output, frame));
+    let _ = answer_frames(&mut rt.stdin(), |frame| answer_frame(&mut output, frame));
 }

@@ -41,7 +41,11 @@ pub fn write_bench(output: &mut Stdout, bench: &Bench) -> io::Result<()> {
 }
 
 // The outcome of a call: its number, its place, and how many polls ended. Number and place are 0 where it was taken.
-pub fn write_outcome(output: &mut Stdout, outcome: Result<(), Refusal>, ended: usize) -> io::Result<()> {
+pub fn write_outcome(
+    output: &mut Stdout,
+    outcome: Result<(), Refusal>,
+    ended: usize,
+) -> io::Result<()> {
     let [.., ended] = ended.to_be_bytes();
     let mut out = [0u8; 10];
     if let Err(why) = outcome {

@@ -1,3 +1,3 @@
--- How many bytes of a buffer count, and the frames.
+-- How many bytes of a buffer count; frames, and how they are answered.
 pub mod Counts
 pub mod Frames
