@@ -102,3 +102,5 @@ module _ (cores : ℕ) (table : Table) (calls out : List ℕ) (r : Opening) (er 
       let None-found = checked_ok (list_fault cores (rows_of table)) sound in
       let opened_bench : r.bench ≡ empty_bench cores table = ap (λ o. o.bench) (er ∙ opening_sound cores table sound) in
       rw (opened_bench, None-found, replay_after)
+
+pub ruleset replay_cases = (replay_not_opened, replay_opened)

@@ -48,7 +48,7 @@ requests_next (a ∷ b ∷ c ∷ d ∷ e' ∷ []) r e = absurd (not_one cc)
 requests_next (a ∷ b ∷ c ∷ d ∷ e' ∷ f ∷ rest) r e = (omega arith, rw e)
 
 -- the call in the first six bytes, by those bytes
-request_first : (bytes : List ℕ) → 6 ≤ length bytes
+pub request_first : (bytes : List ℕ) → 6 ≤ length bytes
     → request_in bytes ≡ request_of (get_or bytes 0 0) (get_or bytes 1 0) (get_or bytes 2 0) (get_or bytes 3 0) (get_or bytes 4 0) (get_or bytes 5 0)
 unfolding request_in
 request_first [] h = absurd (omega arith)

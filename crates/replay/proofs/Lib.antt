@@ -2,5 +2,6 @@
 pub mod Format
 pub mod Writes
 pub mod Calls
+pub mod Chunks
 pub mod Turns
 pub mod Ran

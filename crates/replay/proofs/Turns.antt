@@ -2,7 +2,6 @@
 use Rattle.std.specs.Prelude.{None, Some, Ok, Err}
 use Prim.Native.Nat.{ℕ, suc, ◌+◌, ◌*◌, ◌-◌, ◌≤◌, ◌<◌}
 use native.Mathlib.Omega.{arith}
-use Rattle.std.proofs.lemmas.List.{take_all}
 use mathlib.Core.Path.{◌≡◌, refl, sym, ap, ◌∙◌}
 use mathlib.Core.List.{List}
 use lib.ListN.{length, take, drop, length-drop, length-take, replicate}
@@ -63,11 +62,6 @@ answer_says b call r e =
       bytes = rw (e, counted_all step.finishes);
       bench = rw e;
     }
-
--- the bytes from a place on, as the code lends them
-pub calls_from : (calls : List ℕ) (place : ℕ)
-    → request_in (drop place calls) ≡ request_in (take (length calls - place) (drop place calls))
-calls_from calls place = ap request_in (sym (take_all _ (drop place calls) (omega (arith, length-drop place calls))))
 
 -- Before the turn at byte `place` of the calls: replaying the rest from here is the whole replay.
 pub record Replays (b₀ : Bench) (calls out₀ out : List ℕ) (b : Bench) (place at : ℕ) : Type 0 where

@@ -72,3 +72,5 @@ pub length_polls : (polls : List Finish) → length (polls_bytes polls) ≡ 5 * 
 unfolding polls_bytes
 length_polls [] = refl
 length_polls (poll ∷ polls) = omega (arith, length-append (poll_bytes poll) (polls_bytes polls), length_polls polls)
+
+pub ruleset polls_written = (writes_first, writes_next, writes_last)

@@ -11,6 +11,9 @@ ghost use Rattle.replay.specs.Replay.{replay_from, replay};
 use bench::{Bench, Finish, Finishes, Refusal, Request};
 use quantities::{Fault, Table, Ticks};
 
+// The bytes of a call.
+const CALL_SIZE: usize = 6;
+
 // Why calls are left unanswered: no bench; no call, or no room for its answer, at a byte of the calls.
 #[derive(Clone, Copy, Debug, PartialEq, Eq)]
 pub enum Unanswered {
@@ -46,6 +49,7 @@ fn low_byte(number: usize) -> u8
 }
 
 // A poll that ended, in five bytes.
+#[tactic(auto, using(crate::proofs::Writes::put_is_sets))]
 fn put_poll(out: &mut [u8], at: usize, poll: Finish)
     requires { at + 5 ≤ length out.old }
     ensures { out.new ≡ sets out.old at (poll_bytes poll) }
@@ -55,6 +59,7 @@ fn put_poll(out: &mut [u8], at: usize, poll: Finish)
 }
 
 // The polls that ended, five bytes each.
+#[tactic(auto, using(crate::proofs::Writes::polls_written))]
 fn put_polls(out: &mut [u8], from: usize, polls: Finishes)
     requires { (polls.count ≤ row_capacity) × (from + 5 * polls.count ≤ length out.old) }
     ensures { out.new ≡ sets out.old from (polls_bytes (take polls.count polls.list)) }
@@ -83,20 +88,18 @@ fn run_calls(b: Bench, calls: &[u8], out: &mut [u8]) -> Result<usize, Unanswered
     ensures out_after { out.new ≡ (replay_from b calls.now out.old).out }
 {
     let mut bench = b;
-    let mut place: usize = 0;
     let mut at: usize = 0;
-    while place < calls.len() {
-        let Some(request) = read_call(&calls[place..]) else {
-            return Err(Unanswered::NotACall(place));
+    for (i, call) in calls.chunks(CALL_SIZE).enumerate() {
+        let Some(request) = read_call(call) else {
+            return Err(Unanswered::NotACall(CALL_SIZE * i));
         };
         let answer = bench.answer(request);
         let size = 3 + 5 * answer.finishes.count;
         if out.len() - at < size {
-            return Err(Unanswered::NoRoom(place));
+            return Err(Unanswered::NoRoom(CALL_SIZE * i));
         }
         put_answer(out, at, answer.outcome, answer.finishes);
         at += size;
-        place += 6;
         bench = answer.bench;
     }
     Ok(at)
@@ -104,6 +107,7 @@ fn run_calls(b: Bench, calls: &[u8], out: &mut [u8]) -> Result<usize, Unanswered
 
 // A bench is opened for the table and the calls are answered in order, as far as they are calls and there is room. The
 // answers' number of bytes comes back.
+#[tactic(auto, using(crate::proofs::Calls::replay_cases))]
 pub fn replay(cores: u32, table: Table, calls: &[u8], out: &mut [u8]) -> Result<usize, Unanswered>
     ensures value { result ≡ (replay cores table calls.now out.old).answer }
     ensures out_after { out.new ≡ (replay cores table calls.now out.old).out }
