@@ -16,9 +16,9 @@ const ANSWER_ROOM: usize = 4096;
 const ENDING_ROOM: usize = ANSWER_ROOM + 1;
 
 // The board of a history.
-#[derive(Clone, Copy)]
+#[derive(Clone, Copy, Debug, PartialEq, Eq)]
 struct Board {
-    cores: u8,
+    cores: u32,
     table: Table,
 }
 
@@ -44,7 +44,10 @@ fn read_board(history: &mut impl Read) -> io::Result<Board> {
         let row = read_row(history)?;
         table = table.with_row(row);
     }
-    Ok(Board { cores, table })
+    Ok(Board {
+        cores: u32::from(cores),
+        table,
+    })
 }
 
 // No bench was opened: 1, then the fault's number and place.
@@ -60,17 +63,21 @@ fn write_place(output: &mut Stdout, kind: u8, place: usize) -> io::Result<()> {
     write_frame(output, &[kind, high, low])
 }
 
+fn write_unanswered(output: &mut Stdout, why: Unanswered) -> io::Result<()> {
+    match why {
+        Unanswered::NotOpened(Fault::WholeList(number)) => write_fault(output, number, 0),
+        Unanswered::NotOpened(Fault::OneRow(number, place)) => write_fault(output, number, place),
+        Unanswered::NotACall(place) => write_place(output, 2, place),
+        Unanswered::NoRoom(place) => write_place(output, 3, place),
+    }
+}
+
 // Runs the calls on a new bench. All calls were answered: 0, then the answers.
 fn run(output: &mut Stdout, board: Board, calls: &[u8]) -> io::Result<()> {
     let mut out = [0u8; ENDING_ROOM];
-    match replay::replay(u32::from(board.cores), board.table, calls, &mut out[1..]) {
+    match replay::replay(board.cores, board.table, calls, &mut out[1..]) {
         Ok(count) => write_frame(output, &out[..=count.min(ANSWER_ROOM)]),
-        Err(Unanswered::NotOpened(Fault::WholeList(number))) => write_fault(output, number, 0),
-        Err(Unanswered::NotOpened(Fault::OneRow(number, place))) => write_fault(
-            output, number, place,
-        ),
-        Err(Unanswered::NotACall(place)) => write_place(output, 2, place),
-        Err(Unanswered::NoRoom(place)) => write_place(output, 3, place),
+        Err(why) => write_unanswered(output, why),
     }
 }
 
@@ -86,8 +93,5 @@ fn answer_history(output: &mut Stdout, frame: &[u8]) -> io::Result<()> {
 // Where a write fails there is nobody to tell: the program ends as it does with its input.
 fn main(rt: HostRuntime) {
     let mut output = rt.stdout();
-    let _ = answer_frames(
-        &mut rt.stdin(),
-        |history| answer_history(&mut output, history),
-    );
+    let _ = answer_frames(&mut rt.stdin(), |frame| answer_history(&mut output, frame));
 }

@@ -25,40 +25,34 @@ const BENCH_SIZE: usize = 1582;
 // The bytes of a call: its kind (1), a place and a demand (8 each). A frame is a bench and calls after it.
 const CALL_SIZE: usize = 17;
 
-// Lends a local with the bench to a release, and hands the bench on as it comes back.
+// Lends the bench to a release, and hands it on as it comes back.
 #[tactic(auto, unfolding(bench::specs::Step::released_of))]
-fn lend_release(bench: Bench, place: usize, demand: Ticks) -> Released
+fn lend_release(mut bench: Bench, place: usize, demand: Ticks) -> Released
     ensures { result ≡ released_of (release bench place demand.0) }
 {
-    let mut lent = bench;
-    let outcome = lentbench::release(&mut lent, place, demand);
-    Released {
-        outcome,
-        bench: lent,
-    }
+    let outcome = lentbench::release(&mut bench, place, demand);
+    Released { outcome, bench }
 }
 
-// Lends a local with the bench to a tick, and hands the bench on as it comes back.
+// Lends the bench to a tick, and hands it on as it comes back.
 #[tactic(auto, unfolding(bench::specs::Step::ticked_of))]
-fn lend_tick(bench: Bench) -> Ticked
+fn lend_tick(mut bench: Bench) -> Ticked
     ensures { result ≡ ticked_of (tick bench) }
 {
-    let mut lent = bench;
-    let answer = lentbench::tick(&mut lent);
+    let answer = lentbench::tick(&mut bench);
     Ticked {
         outcome: answer.outcome,
         finishes: answer.finishes,
-        bench: lent,
+        bench,
     }
 }
 
-// Lends a local with the bench to a run of this many ticks, and hands the bench on as it comes back.
-fn lend_run(bench: Bench, ticks: Ticks) -> Bench
+// Lends the bench to a run of this many ticks, and hands it on as it comes back.
+fn lend_run(mut bench: Bench, ticks: Ticks) -> Bench
     ensures { result ≡ after bench (ticks_for ticks.0) }
 {
-    let mut lent = bench;
-    lentbench::run(&mut lent, ticks);
-    lent
+    lentbench::run(&mut bench, ticks);
+    bench
 }
 
 // Makes a call and writes its answer. The bench after it comes back.

@@ -10,7 +10,7 @@ const RELEASE: u8 = 1;
 const RUN: u8 = 3;
 
 // A call on a lent bench.
-#[derive(Clone, Copy)]
+#[derive(Clone, Copy, Debug, PartialEq, Eq)]
 pub enum Call {
     Release(usize, Ticks),
     Run(Ticks),
@@ -60,11 +60,9 @@ pub fn read_bench(bytes: &mut impl Read) -> io::Result<Bench> {
         left: Ticks(0),
     };
     let mut states = [idle; Table::ROW_CAPACITY];
-    for i in 0..Table::ROW_CAPACITY {
-        let row = read_row(bytes)?;
-        let state = read_state(bytes)?;
-        table.rows[i] = row;
-        states[i] = state;
+    for (row, state) in table.rows.iter_mut().zip(&mut states) {
+        *row = read_row(bytes)?;
+        *state = read_state(bytes)?;
     }
     Ok(Bench {
         cores,
