@@ -75,6 +75,7 @@ pub fn read_bench(bytes: &mut impl Read) -> io::Result<Bench> {
 // Reads a call: its kind, a place and a demand. A kind that no other call has is a tick, which looks at neither.
 pub fn read_call(bytes: &mut impl Read) -> io::Result<Call> {
     let [kind]: [u8; 1] = read_array(bytes)?;
+    // Kept: `as` is proved to lose nothing here, and `try_from` would add an error that can't come.
     let place = read_number(bytes)? as usize;
     let demand = Ticks(read_number(bytes)?);
     Ok(match kind {

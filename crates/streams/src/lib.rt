@@ -1,4 +1,4 @@
-//! Standard input read into a lent room, however the bytes arrive, and the frames of the programs that are compared.
+//! An input read into a lent room, however the bytes arrive, and the frames of the programs that are compared.
 #![tactic(auto)]
 
 ghost use Rattle.std.specs.Prelude.{◌≡◌, ℕ, ◌<◌, ◌^◌, List, length, take, IfErr, IfSome, IsNone, OnOk};
