@@ -83,12 +83,11 @@ fn put_answer(out: &mut [u8], at: usize, outcome: Result<(), Refusal>, polls: Fi
 }
 
 // The calls from the first byte on, answered one after the other.
-fn run_calls(b: Bench, calls: &[u8], out: &mut [u8]) -> Result<usize, Unanswered>
-    ensures value { result ≡ (replay_from b calls.now out.old).answer }
-    ensures out_after { out.new ≡ (replay_from b calls.now out.old).out }
+fn run_calls(mut bench: Bench, calls: &[u8], out: &mut [u8]) -> Result<usize, Unanswered>
+    ensures value { result ≡ (replay_from bench calls.now out.old).answer }
+    ensures out_after { out.new ≡ (replay_from bench calls.now out.old).out }
 {
-    let mut bench = b;
-    let mut at: usize = 0;
+    let mut at = 0;
     for (i, call) in calls.chunks(CALL_SIZE).enumerate() {
         let Some(request) = read_call(call) else {
             return Err(Unanswered::NotACall(CALL_SIZE * i));

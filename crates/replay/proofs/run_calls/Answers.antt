@@ -15,7 +15,7 @@ loop-i-init c =
     record {
       size = cc;
       rest = rw none (cc);
-      replays = rw none (replays_first c.args.b c.args.calls.now c.args.out.now);
+      replays = rw none (replays_first c.args.bench c.args.calls.now c.args.out.now);
     }
 
 pub loop-i-preserved : goal.loop-i-preserved
@@ -31,7 +31,7 @@ loop-i-preserved c =
       rest = rw next (chunk_next calls _ c.in-Some.call.now _ _ before.rest step.0.1.0 cut c.in-Some-read_call.request said);
       replays =
           rw next
-          (replays_next c.args.b calls c.args.out.now c.loop-i.out c.loop-i.bench _ c.loop-i.at before.replays c.in-Some-read_call.request
+          (replays_next c.args.bench calls c.args.out.now c.loop-i.out c.loop-i.bench _ c.loop-i.at before.replays c.in-Some-read_call.request
           (chunk_says calls _ c.in-Some.call.now _ _ before.rest step.0.1.0 cut ∙ said)
           c.answer-answer.result c.answer-answer.ensures (omega arith) c.put_answer.new.out c.put_answer.ensures);
     }
@@ -56,7 +56,7 @@ returns-in_default c =
     let cut = rw before.size at step.0.1.1 in
     let calls = c.args.calls.now in
     let place = 6 * enumerate_count c.loop-i.i-iterator in
-    let e = replays_no_call c.args.b calls c.args.out.now c.loop-i.out c.loop-i.bench place c.loop-i.at before.replays
+    let e = replays_no_call c.args.bench calls c.args.out.now c.loop-i.out c.loop-i.bench place c.loop-i.at before.replays
     (omega (arith, step.0.1.2, ap length before.rest, length-drop place calls))
     (chunk_says calls _ c.in-Some.call.now _ _ before.rest step.0.1.0 cut ∙ sym c.read_call.ensures ∙ c.in_default.is) in
     record { value = rw step.1 (sym (ap (λ r. r.answer) e)); out_after = sym (ap (λ r. r.out) e) }
@@ -68,7 +68,7 @@ returns-then-out-at c =
     let cut = rw before.size at step.0.1.1 in
     let calls = c.args.calls.now in
     let place = 6 * enumerate_count c.loop-i.i-iterator in
-    let e = replays_no_room c.args.b calls c.args.out.now c.loop-i.out c.loop-i.bench place c.loop-i.at before.replays c.in-Some-read_call.request
+    let e = replays_no_room c.args.bench calls c.args.out.now c.loop-i.out c.loop-i.bench place c.loop-i.at before.replays c.in-Some-read_call.request
     (chunk_says calls _ c.in-Some.call.now _ _ before.rest step.0.1.0 cut ∙ sym c.read_call.ensures ∙ c.in-Some-read_call.is)
     c.answer-answer.result c.answer-answer.ensures c.if-out-at.true in
     record { value = rw step.1 (sym (ap (λ r. r.answer) e)); out_after = sym (ap (λ r. r.out) e) }
@@ -79,6 +79,6 @@ returns c =
     let calls = c.args.calls.now in
     let place = 6 * enumerate_count c.loop-i.i-iterator in
     let over = c.in-None.ensures.steps.0.1.0 in
-    let e = replays_last c.args.b calls c.args.out.now c.loop-i.out c.loop-i.bench place c.loop-i.at before.replays
+    let e = replays_last c.args.bench calls c.args.out.now c.loop-i.out c.loop-i.bench place c.loop-i.at before.replays
     (omega (arith, over, ap length before.rest, length-drop place calls)) in
     record { value = sym (ap (λ r. r.answer) e); out_after = sym (ap (λ r. r.out) e) }

@@ -9,5 +9,5 @@ abbrev pub invariant-loop-i : goal.invariant-loop-i
 invariant-loop-i l = record {
   size : chunks_size (enumerate_source l.i-iterator) ≡ 6;
   rest : chunks_rest (enumerate_source l.i-iterator) ≡ drop (6 * enumerate_count l.i-iterator) l.calls;
-  replays : Replays l.initial.bench l.calls l.initial.out l.out l.bench (6 * enumerate_count l.i-iterator) l.at;
+  replays : Replays l.fn.bench l.calls l.initial.out l.out l.bench (6 * enumerate_count l.i-iterator) l.at;
 }
