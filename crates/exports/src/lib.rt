@@ -17,28 +17,18 @@ use windows::Answer;
 // One more than the largest place that a code has room for.
 const PLACE_LIMIT: u64 = 4_294_967_296;
 
-// The table of a list of triples: C, D and T of each row. It does in place what Table::with_row does, since a table
-// that is handed on by value is copied, and the copies would take longer than the search of a short list.
+// The table of a list of triples: C, D and T of each row.
+#[tactic(auto, unfolding(lentrows::specs::Loaded::loaded))]
 fn load(rows: &[[u64; 3]]) -> Table
     ensures { result ≡ loaded_table (rows_from rows.now) }
 {
     let mut table = Table::empty();
-    let mut i: usize = 0;
-    while i < rows.len() {
-        let triple = rows[i];
-        let row = Row {
+    for triple in rows {
+        table.push(Row {
             c: Ticks(triple[0]),
             d: Ticks(triple[1]),
             t: Ticks(triple[2]),
-        };
-        let count = table.count;
-        if count < Table::ROW_CAPACITY {
-            table.rows[count] = row;
-            table.count = count + 1;
-        } else {
-            table.count = Table::ROW_CAPACITY + 1;
-        }
-        i += 1;
+        });
     }
     table
 }
@@ -48,7 +38,7 @@ fn code(number: u32, place: usize) -> u64
     requires { place < place_limit }
     ensures { result ≡ coded number place }
 {
-    (number as u64) * PLACE_LIMIT + (place as u64)
+    u64::from(number) * PLACE_LIMIT + (place as u64)
 }
 
 // Number and place of an answer as one number; 0 where every row is shown.
@@ -71,12 +61,8 @@ fn write_bounds(told: Told, bounds: &mut [u64])
     requires { (told.shown ≤ row_capacity) × (told.shown ≤ length bounds.old) }
     ensures { bounds.new ≡ front_replaced told.shown (numbers told.bounds) bounds.old }
 {
-    let found = told.bounds;
-    let mut i: usize = 0;
-    while i < told.shown {
-        let bound = found[i];
+    for (i, bound) in told.bounds[..told.shown].iter().enumerate() {
         bounds[i] = bound.0;
-        i += 1;
     }
 }
 
@@ -87,7 +73,6 @@ pub fn dipperslate_analyse(cores: u32, rows: &[[u64; 3]], bounds: &mut [u64]) ->
 {
     let table = load(rows);
     let told = lentrows::answer_for(cores, table, bounds.len());
-    let answer = told.answer;
     write_bounds(told, bounds);
-    code_of(answer)
+    code_of(told.answer)
 }

@@ -92,8 +92,8 @@ pub record TableAnswer (cores : ℕ) (table : Table) (r : Result (Unit {0}) Faul
   pub faulty : (one : Paper) → FirstFailing (list_order cores (rows_of table)) one
       → r ≡ Err (fault_at one.number one.place)
 
--- `Table::empty` has no row. `Table::with_row` has one row more, below the others; a full table then counts
--- 33 rows, so that 1 turns it away.
+-- `Table::empty` has no row. After `Table::push`, and in what `Table::with_row` answers, there is one row more, below
+-- the others; a full table then counts 33 rows, so that 1 turns it away.
 abbrev pub NoRows : (r : Table) → Type 0
 NoRows r = rows_of r ≡ []
 

@@ -116,6 +116,12 @@ pub fn add_row(table: Table, row: Row) -> Table
     table.with_row(row)
 }
 
+pub fn put_row(table: &mut Table, row: Row)
+    ensures { OneRowMore table.old row table.new }
+{
+    table.push(row);
+}
+
 pub fn answer_request(b: Bench, request: Request) -> Ticked
     ensures { RequestAnswer b request result }
 {

@@ -7,7 +7,7 @@ use mathlib.Core.Bool.{Bool}
 use mathlib.Core.List.{List, [], ◌∷◌, ◌++◌}
 use mathlib.Core.Option.{Option, none, some}
 use lib.ListN.{length}
-use borrow.Author.Tests.{eq-eqb, ne_eqb, lt-ltb, le-ltb}
+use borrow.Author.Tests.{eq-eqb, ne_eqb, lt-ltb, le-ltb, ltb-true, ltb-false}
 use Rattle.quantities.specs.Limits.{row_capacity, core_limit, largest_gap}
 use Rattle.quantities.specs.Row.{cost, deadline, gap}
 use Rattle.laws.specs.Checks.{Check, first_failing}
@@ -16,6 +16,7 @@ use Rattle.laws.proofs.Tests.{not_one}
 use Rattle.quantities.specs.Paper.{Paper, paper}
 use Rattle.quantities.specs.Checks.{is_last, row_checks, rows_checks, list_checks, room_checks, fault_from}
 use Rattle.quantities.specs.Checks.{row_fault, rows_fault, list_fault, lent_fault, SoundAt, checked_of}
+use Rattle.quantities.proofs.Rows.{length_rows}
 use Rattle.quantities.specs.declared.Row.{Row}
 use Rattle.quantities.specs.declared.Fault.{Fault}
 use Rattle.quantities.specs.declared.Fault.TheVariants.{WholeList, OneRow}
@@ -73,6 +74,8 @@ unfolding row_checks first_failing fault_from
 row_fault_none place last row s =
     simp (ne_eqb row.c.0 0 (omega arith), le-ltb (deadline row) (cost row) s.in_time, le-ltb (gap row) (deadline row) s.in_gap, le-ltb largest_gap (gap row) s.short_gap)
 
+pub ruleset row_faults = (row_fault_3, row_fault_4, row_fault_5, row_fault_6, row_fault_none, ltb-true, ltb-false)
+
 -- Of two lists of checks, the first decides where one of its checks fails, else the second does.
 pub fault_in_first : (a b : List (Check Paper)) (f : Fault) → fault_from (first_failing a) ≡ some f
     → fault_from (first_failing (a ++ b)) ≡ some f
@@ -126,6 +129,8 @@ module _ (cores : ℕ) (rows : List Row) where
   unfolding list_fault list_checks first_failing
   list_fault_rows some_rows few some_cores few_cores =
       simp (ne_eqb (length rows) 0 some_rows, le-ltb row_capacity (length rows) few, ne_eqb cores 0 some_cores, le-ltb core_limit cores few_cores)
+
+pub ruleset list_faults = (list_fault_no_rows, list_fault_many_rows, list_fault_no_cores, list_fault_many_cores, list_fault_rows, length_rows)
 
 -- The fault of a list whose bounds go into a list with this many entries: its own fault comes first, then 7.
 module _ (cores entries : ℕ) (rows : List Row) where

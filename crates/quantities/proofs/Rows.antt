@@ -6,7 +6,7 @@ use native.Mathlib.Decide.{dec_lt}
 use mathlib.Core.Path.{◌≡◌, refl, ap, subst}
 use mathlib.Core.List.{[], ◌∷◌, ◌++◌}
 use lib.ListN.{length, get_or, take, drop, set, replicate, length-take, length-append, length-replicate, length-set, drop_of_length-le}
-use lib.Seq.{drop-cons, get_or-take, take-append-le, take-suc-set}
+use lib.Seq.{get_or-take, take-append-le, take-suc-set}
 use borrow.Author.Tests.{lt-ltb, le-ltb}
 use Rattle.laws.specs.Each.{Each}
 use Rattle.laws.proofs.Lists.{get_d_padded, each_at}
@@ -25,13 +25,6 @@ length_rows table = simp (length-take, length-append, length-replicate) (omega a
 pub row_at_lem : (table : Table) (i : ℕ) → i < table.count → get_or (rows_of table) i no_row ≡ get_or table.rows i no_row
 unfolding rows_of
 row_at_lem table i h = rw (get_or-take, get_d_padded)
-
--- the rows from a place on
-pub rows_from_lem : (table : Table) (i : ℕ) → i < table.count
-    → drop i (rows_of table) ≡ get_or table.rows i no_row ∷ drop (suc i) (rows_of table)
-rows_from_lem table i h =
-    let l : i < length (rows_of table) = omega (arith, length_rows table) in
-    rw (drop-cons (rows_of table) i no_row l, row_at_lem table i h)
 
 -- no row stands past the last
 pub rows_end : (table : Table) → drop table.count (rows_of table) ≡ []

@@ -66,6 +66,7 @@ impl Row {
 }
 
 // Checks 3 to 6 of the row at a place, which is the last of its table or not: no check of today asks.
+#[tactic(auto, using(crate::proofs::Checks::row_faults), unfolding(crate::specs::Checks::checked_of))]
 fn check_row(row: Row, place: usize, last: bool) -> Result<(), Fault>
     requires { 0 < place }
     ensures { result ≡ checked_of (row_fault place last row) }
@@ -123,6 +124,7 @@ impl Table {
     }
 
     // The table with no row.
+    #[tactic(auto, unfolding(crate::specs::Table::empty_table))]
     pub fn empty() -> Table
         ensures { result ≡ empty_table }
     {
@@ -131,28 +133,35 @@ impl Table {
             d: Ticks(0),
             t: Ticks(0),
         };
-        let rows = [none; Table::ROW_CAPACITY];
         Table {
             count: 0,
-            rows: rows,
+            rows: [none; Table::ROW_CAPACITY],
         }
     }
 
-    // The table with one row more below the others; past the capacity it only counts that there are too many.
+    // Puts a row below the others; past the capacity it only counts that there are too many.
+    #[tactic(auto, unfolding(crate::specs::Table::with_row))]
+    pub fn push(&mut self, row: Row)
+        ensures { self.new ≡ with_row self.old row }
+    {
+        if self.count < Table::ROW_CAPACITY {
+            self.rows[self.count] = row;
+            self.count += 1;
+        } else {
+            self.count = Table::ROW_CAPACITY + 1;
+        }
+    }
+
+    // The table with one row more below the others, as `push` puts it there.
     pub fn with_row(mut self, row: Row) -> Table
         ensures { result ≡ with_row self row }
     {
-        let count = self.count;
-        if count < Table::ROW_CAPACITY {
-            self.rows[count] = row;
-            self.count = count + 1;
-            return self;
-        }
-        self.count = Table::ROW_CAPACITY + 1;
+        self.push(row);
         self
     }
 
     // Checks 1 to 6 of the table's rows for a board with this many cores, in the order of a list.
+    #[tactic(auto, using(crate::proofs::Checks::list_faults), unfolding(crate::specs::Checks::checked_of))]
     pub fn check(self, cores: u32) -> Result<(), Fault>
         ensures { result ≡ checked_of (list_fault cores (rows_of self)) }
     {

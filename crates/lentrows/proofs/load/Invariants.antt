@@ -1,10 +1,7 @@
 -- load puts the rows of the list into a table, one after the other.
-use Rattle.std.proofs.Common.{◌-◌, ◌≡◌, ◌≤◌}
+use Rattle.std.proofs.Common.{◌≡◌}
 use Rattle.lentrows.specs.Loaded.{loaded}
 use Rattle.lentrows.proofs.load.Given as goal
 
-abbrev pub invariant-loop-i : goal.invariant-loop-i
-invariant-loop-i l = (l.i ≤ l.n) × (l.table ≡ loaded l.i l.rows)
-
-abbrev pub decreases-loop-i : goal.decreases-loop-i
-decreases-loop-i l = l.n - l.i
+abbrev pub invariant-loop-row : goal.invariant-loop-row
+invariant-loop-row l = l.table ≡ loaded l.row-index l.rows
