@@ -81,5 +81,5 @@ read_of sheet = closed (length sheet) (first_sheet_of sheet)
 
 -- a verdict on paper
 unfoldable pub verdict_paper : Verdict → Paper
-verdict_paper (Ok tt) = no_refusal
+verdict_paper (Ok _) = no_refusal
 verdict_paper (Err one) = paper one.number one.place
