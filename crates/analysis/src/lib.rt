@@ -21,6 +21,7 @@ use windows::Answer;
 const LARGEST_WINDOW: u64 = 64_000_000;
 
 // The answer to a table, with the bound of each row in the entry of its index; 0 stands where there is no bound.
+// Kept: the bounds beside the answer, since AnalysisAnswer says of a table with a fault too that it holds none.
 #[derive(Clone, Copy, Debug, PartialEq, Eq)]
 pub struct Analysis {
     pub answer: Answer,
@@ -185,6 +186,7 @@ impl RowJudged {
             ≡ found_of (window self.now.cores own.0 top.0 (above self.now.table self.now.bounds self.now.k)) }
     {
         let mut x = own.0;
+        // Kept: a while, since x jumps and counts nothing.
         while x <= top.0 {
             let window = Ticks(x);
             let taken = self.taken_above(own, window);

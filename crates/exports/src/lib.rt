@@ -18,6 +18,7 @@ use windows::Answer;
 const PLACE_LIMIT: u64 = 4_294_967_296;
 
 // The table of a list of triples: C, D and T of each row.
+// Kept: beside lentrows' own, since C's rows are triples; one generic function would ask for a conversion from each.
 #[tactic(auto, unfolding(lentrows::specs::Loaded::loaded))]
 fn load(rows: &[[u64; 3]]) -> Table
     ensures { result ≡ loaded_table (rows_from rows.now) }
@@ -33,6 +34,7 @@ fn load(rows: &[[u64; 3]]) -> Table
     table
 }
 
+// Kept: one number for all answers, by the C interface.
 // Number and place of document 01 as one number.
 fn code(number: u32, place: usize) -> u64
     requires { place < place_limit }
@@ -56,6 +58,7 @@ fn code_of(answer: Answer) -> u64
     }
 }
 
+// Kept: beside lentrows' own, which copies lengths as they stand, since C is lent numbers.
 // Writes the bounds told, as numbers of ticks, into the first entries of a lent list.
 fn write_bounds(told: Told, bounds: &mut [u64])
     requires { (told.shown ≤ row_capacity) × (told.shown ≤ length bounds.old) }

@@ -15,6 +15,7 @@ use quantities::{Fault, Row, Table, Ticks};
 use windows::Answer;
 
 // What the caller is told: the answer, the bounds, and how many of these are to be written.
+// Kept: bounds and how many beside the answer, since ToldAnswer says of a fault too that no bound is to be written.
 #[derive(Clone, Copy, Debug, PartialEq, Eq)]
 pub struct Told {
     pub answer: Answer,

@@ -28,6 +28,7 @@ pub struct Row {
 }
 
 // Rows in priority order. `count` says how many there are; those past the capacity are counted and not kept.
+// Kept: an array with its count, which `rows_of` tells above the capacity too; no function here is given memory.
 #[derive(Clone, Copy, Debug, PartialEq, Eq)]
 pub struct Table {
     pub count: usize,
@@ -35,6 +36,7 @@ pub struct Table {
 }
 
 // What is wrong with a row list, by the number of document 01: the whole list, or the row at a place.
+// Kept: numbers, since document 01 names this form and edit four_for_five gives one for another.
 #[derive(Clone, Copy, Debug, PartialEq, Eq)]
 pub enum Fault {
     WholeList(u32),

@@ -20,6 +20,7 @@ pub struct Reading {
 }
 
 // What is wrong at a record or in a whole sheet: document 01's number with its byte place.
+// Kept: a number, since FaultAt speaks of it and edit first_sheet_refused_by_its_place exchanges it with the place.
 #[derive(Clone, Copy, Debug, PartialEq, Eq, PartialOrd, Ord, Hash)]
 pub struct SheetFault {
     pub number: u32,
@@ -106,6 +107,7 @@ pub fn read_first(bytes: &[u8]) -> FirstSheet
 {
     let mut reading = new_reading();
     let mut at = 0;
+    // Kept: a loop, since each record says itself where the next one begins.
     loop {
         let part = &bytes[at..];
         let found = record_on(part);

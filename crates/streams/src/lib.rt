@@ -20,6 +20,7 @@ pub fn read_full<R: Read>(input: &mut R, room: &mut [u8]) -> usize
     ensures read { Consumes (R.remaining input.old) (R.remaining input.new) (take result room.new) }
 {
     let mut done: usize = 0;
+    // Kept: a while, since a read says itself how many bytes came.
     while done < room.len() {
         let more = input.read(&mut room[done..]).unwrap_or(0);
         if more == 0 {
