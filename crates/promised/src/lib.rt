@@ -116,10 +116,11 @@ pub fn add_row(table: Table, row: Row) -> Table
     table.with_row(row)
 }
 
-pub fn put_row(table: &mut Table, row: Row)
-    ensures { OneRowMore table.old row table.new }
+pub fn put_row(mut table: Table, row: Row) -> Table
+    ensures { OneRowMore table row result }
 {
     table.push(row);
+    table
 }
 
 pub fn answer_request(b: Bench, request: Request) -> Ticked
