@@ -53,10 +53,10 @@ impl Line {
     {
         match self {
             Line::First { cores, tick, rows } => {
-                page.worded("cores ", u64::from(cores));
-                page.worded(" tick ", tick.0);
-                page.worded(" rows ", rows as u64);
-                page.word("\n");
+                page.worded(b"cores ", u64::from(cores));
+                page.worded(b" tick ", tick.0);
+                page.worded(b" rows ", rows as u64);
+                page.word(b"\n");
             }
             Line::Row {
                 place,
@@ -65,21 +65,21 @@ impl Line {
                 deadline,
             } => {
                 page.number(place as u64);
-                page.worded(" ", u64::from(label));
-                page.worded(" ", bound.0);
-                page.worded(" ", deadline.0);
-                page.word("\n");
+                page.worded(b" ", u64::from(label));
+                page.worded(b" ", bound.0);
+                page.worded(b" ", deadline.0);
+                page.word(b"\n");
             }
-            Line::Shown => page.word("all shown\n"),
+            Line::Shown => page.word(b"all shown\n"),
             Line::NotShown { place, label } => {
-                page.worded("not shown ", place as u64);
-                page.worded(" ", u64::from(label));
-                page.word("\n");
+                page.worded(b"not shown ", place as u64);
+                page.worded(b" ", u64::from(label));
+                page.word(b"\n");
             }
             Line::Refused { number, place } => {
-                page.worded("refused ", u64::from(number));
-                page.worded(" ", place as u64);
-                page.word("\n");
+                page.worded(b"refused ", u64::from(number));
+                page.worded(b" ", place as u64);
+                page.word(b"\n");
             }
         }
     }

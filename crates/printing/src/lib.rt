@@ -5,14 +5,14 @@ ghost use Rattle.std.specs.Prelude.{◌≡◌, ◌+◌, ◌≤◌, ◌++◌, len
 ghost use Rattle.printing.specs.Decimal.{decimal, number_room};
 ghost use Rattle.printing.specs.Buffer.{Puts};
 
-use arrayvec::ArrayString;
+use arrayvec::ArrayVec;
 use itoa::Buffer;
 use std::marker::Model;
 
 /// A text of at most `ROOM` bytes. It grows without an allocator, and a call that has room can't fail.
 #[derive(Clone, Debug, Default, Drop)]
 pub struct Page<const ROOM: usize> {
-    text: ArrayString<ROOM>,
+    text: ArrayVec<u8, ROOM>,
 }
 
 impl<const ROOM: usize> Model for Page<ROOM> {
@@ -20,16 +20,16 @@ impl<const ROOM: usize> Model for Page<ROOM> {
 
     ghost Value = { List ℕ };
 
-    ghost view = { λ page. page.text.bytes };
+    ghost view = { λ page. page.text.items };
 }
 
 impl<const ROOM: usize> Page<ROOM> {
     /// A word.
-    pub fn word(&mut self, word: &str)
+    pub fn word(&mut self, word: &[u8])
         requires { length self.old + length word.now ≤ ROOM }
         ensures { self.new ≡ self.old ++ word.now }
     {
-        self.text.push_str(word);
+        self.text.try_extend_from_slice(word).unwrap();
     }
 
     /// A number in decimal, where there is room for any.
@@ -39,11 +39,11 @@ impl<const ROOM: usize> Page<ROOM> {
         ensures grows { self.new ≡ self.old ++ decimal number }
         ensures short { length (decimal number) ≤ number_room }
     {
-        self.text.push_str(Buffer::new().format(number));
+        self.word(Buffer::new().format(number).as_bytes());
     }
 
     /// A word, and a number in decimal after it.
-    pub fn worded(&mut self, word: &str, number: u64)
+    pub fn worded(&mut self, word: &[u8], number: u64)
         requires { length self.old + length word.now + number_room ≤ ROOM }
         ensures grows { self.new ≡ self.old ++ word.now ++ decimal number }
         ensures short { length (decimal number) ≤ number_room }
@@ -60,7 +60,7 @@ impl<const ROOM: usize> Page<ROOM> {
         ensures puts { Puts out.old at self.now out.new result }
         ensures short { length self.now ≤ ROOM }
     {
-        let text = self.text.as_str().as_bytes();
+        let text = self.text.as_slice();
         let next = at + text.len();
         out[at..next].copy_from_slice(text);
         next
