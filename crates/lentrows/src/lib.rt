@@ -70,10 +70,11 @@ pub fn answer_for(cores: u32, table: Table, entries: usize) -> Told
         return refused(Fault::WholeList(7));
     }
     let Analysis { answer, bounds } = analysis::analyse(cores, table);
+    let shown = shown_by(answer, table.count);
     Told {
         answer,
         bounds,
-        shown: shown_by(answer, table.count),
+        shown,
     }
 }
 

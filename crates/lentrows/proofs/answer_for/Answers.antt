@@ -58,6 +58,6 @@ returns c =
     let rows = rows_of c.args.table in
     let found = c.analyse-answer.result in
     let sound = checked_ok (list_fault c.args.cores rows) (sym c.check.ensures ∙ c.in_default.is) in
-    let count = c.shown_by.ensures ∙ ap (shown_by found.answer) (sym (length_rows c.args.table)) in
+    let count = c.shown_by-shown.ensures ∙ ap (shown_by found.answer) (sym (length_rows c.args.table)) in
     let roomy : length rows ≤ c.args.entries = omega (arith, c.if-entries-table.false, length_rows c.args.table) in
-    told c.args.cores c.args.entries rows sound roomy found c.analyse-answer.ensures c.shown_by.result count
+    told c.args.cores c.args.entries rows sound roomy found c.analyse-answer.ensures c.shown_by-shown.result count
