@@ -61,6 +61,7 @@ struct RowJudged {
     ghost ready: { Ready cores table bounds k } by { Ready-prop cores table bounds k },
 }
 
+// Kept: cores go to usize by a cast, here and below, since there is no `From` of u32 for it.
 // Brings the most with each number of carriers, from 0 up to `carriers`, up to date when one row more takes so much
 // without and with carry-in.
 fn raise(
@@ -239,6 +240,7 @@ fn bounds_of(cores: u32, table: Table) -> Analysis
     }
 }
 
+// Kept: cores and table apart, here and in bench, replay and lentrows, since document 01 hands the table on by value.
 // The answer to a table's rows on a board with this many cores: its fault, or its bounds from the top.
 pub fn analyse(cores: u32, table: Table) -> Analysis
     ensures { result ≡ analysis_of (judged cores (rows_of table)) }

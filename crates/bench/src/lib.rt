@@ -224,6 +224,7 @@ impl Bench {
             || rows_broken(self)
     }
 
+    // Kept: place and demand apart: document 01 names both of a release, and `Request` has them as one.
     // Whether a release of `demand` at `place` is taken, or refused: the first of 29, 20, 23, 22, 21 decides.
     #[tactic(auto, using(crate::proofs::Permitted::release_cases), unfolding(crate::specs::Refusal::outcome_of))]
     pub fn judge_release(self, place: usize, demand: Ticks) -> Result<(), Refusal>

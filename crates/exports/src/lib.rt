@@ -35,6 +35,7 @@ fn load(rows: &[[u64; 3]]) -> Table
 }
 
 // Kept: one number for all answers, by the C interface.
+// Kept: a usize goes to u64 by a cast, since there is no `From` for it.
 // Number and place of document 01 as one number.
 fn code(number: u32, place: usize) -> u64
     requires { place < place_limit }

@@ -84,6 +84,7 @@ impl RowFields {
 
 // What stands on the part of a sheet that begins where a record should: no byte, a kind that no record has,
 // a record of this kind that is cut short, or a whole record with its fields.
+// Kept: records and faults in one enum, since `is_end` is asked of both and edit cut_record_is_the_end lies of a fault.
 #[derive(Clone, Copy, Debug, PartialEq, Eq)]
 pub enum Record {
     Missing,
@@ -94,6 +95,7 @@ pub enum Record {
     End(usize),
 }
 
+// Kept: a part and a place in it, here and below, as the definition `field` reads.
 // The number in the two bytes from a place on.
 #[tactic(auto, using(crate::proofs::Bytes::two_be))]
 fn two_bytes(part: &[u8], at: usize) -> u16

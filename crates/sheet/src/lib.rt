@@ -12,7 +12,7 @@ use records::{Record, is_end, record_on, size_on};
 mod judge;
 
 // How far a sheet has been read: whether its board record was, and what the records so far gave.
-// Kept: a flag with a sheet beside it, since `record_checks` tells of the checks behind 13 also where no board was read.
+// Kept: a flag beside a sheet, since `record_checks` tells of the checks behind 13 where no board was read too.
 #[derive(Clone, Copy, Debug, PartialEq, Eq)]
 pub struct Reading {
     pub begun: bool,
@@ -28,7 +28,7 @@ pub struct SheetFault {
 }
 
 // The first sheet that stands on some bytes and the place behind its end record, or a refusal with the empty sheet.
-// Kept: a sheet and an end beside the verdict, since edits refusal_with_an_end and refused_first_sheet_has_an_end hold them.
+// Kept: sheet and end beside the verdict, by edits refusal_with_an_end and refused_first_sheet_has_an_end.
 #[derive(Clone, Copy, Debug, PartialEq, Eq)]
 pub struct FirstSheet {
     pub verdict: Result<(), SheetFault>,
@@ -37,7 +37,7 @@ pub struct FirstSheet {
 }
 
 // The reader's answer. A refused sheet yields no table: its sheet is the empty one.
-// Kept: a sheet beside the verdict, since `NoTableRefused` and edit refused_sheet_with_rows say which one a refusal has.
+// Kept: a sheet beside the verdict: `NoTableRefused` and edit refused_sheet_with_rows say which a refusal has.
 #[derive(Clone, Copy, Debug, PartialEq, Eq)]
 pub struct Outcome {
     pub verdict: Result<(), SheetFault>,
