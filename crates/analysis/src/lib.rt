@@ -208,7 +208,8 @@ impl RowJudged {
             (row_of_index (rows_of self.now.table) self.now.k)) }
     {
         let row = self.table.rows[self.k];
-        self.window_of(row.cost(), row.d)
+        let own = row.cost();
+        self.window_of(own, row.d)
     }
 }
 

@@ -5,8 +5,8 @@ use Rattle.quantities.specs.Row.{cost, deadline}
 use Rattle.quantities.proofs.Rows.{row_at_lem}
 use Rattle.analysis.proofs.RowJudged.bound_of.Goals as goal
 
-pub cost-requires : goal.cost-requires
-cost-requires c =
+pub cost-own-requires : goal.cost-own-requires
+cost-own-requires c =
     omega (arith, ap cost (row_at_lem c.args.self.now.table c.args.self.now.k c.requires.stands))
 
 pub window_of-requires : goal.window_of-requires
@@ -15,4 +15,4 @@ window_of-requires c =
 
 pub returns : goal.returns
 returns c =
-    rw (row_at_lem c.args.self.now.table c.args.self.now.k c.requires.stands, ← c.cost.ensures) c.window_of.ensures
+    rw (row_at_lem c.args.self.now.table c.args.self.now.k c.requires.stands, ← c.cost-own.ensures) c.window_of.ensures
