@@ -61,7 +61,8 @@ struct RowJudged {
     ghost ready: { Ready cores table bounds k } by { Ready-prop cores table bounds k },
 }
 
-// Kept: cores go to usize by a cast, here and below, since there is no `From` of u32 for it.
+// Kept: an array with the number of carriers, since `Raised` tells of all its entries; cores go to usize by a cast, as
+// `try_from` would add an error that can't come.
 // Brings the most with each number of carriers, from 0 up to `carriers`, up to date when one row more takes so much
 // without and with carry-in.
 fn raise(
@@ -81,6 +82,7 @@ fn raise(
     mosts[0] += without.0;
 }
 
+// Kept: cost and gap apart in the three formulas, as the definitions `plain` and `carry` read.
 // The most work of a row in a window without carry-in. It is at most the window, since C is at most T
 // (`plain_le_window`).
 #[tactic(auto, unfolding(windows::specs::Window::plain))]
@@ -241,7 +243,7 @@ fn bounds_of(cores: u32, table: Table) -> Analysis
     }
 }
 
-// Kept: cores and table apart, here and in bench, replay and lentrows, since document 01 hands the table on by value.
+// Kept: cores and table apart, as the contracts of this function, of `Bench::opened` and of `replay` name them.
 // The answer to a table's rows on a board with this many cores: its fault, or its bounds from the top.
 pub fn analyse(cores: u32, table: Table) -> Analysis
     ensures { result ≡ analysis_of (judged cores (rows_of table)) }

@@ -26,7 +26,7 @@ pub struct RowState {
 }
 
 // A board being run: its cores and table, the present instant, and a state for each row of the table.
-// Kept: a rule of the project hands the table on by value, so the states stand beside its rows and not in them.
+// Kept: states beside the table's rows, since the page OpenedHolds and `rows_broken` name the table by itself.
 #[derive(Clone, Copy, Debug, PartialEq, Eq)]
 pub struct Bench {
     pub cores: u32,
@@ -117,6 +117,7 @@ impl Refusal {
         }
     }
 
+    // Kept: 0 where it is of no row, as `refusal_paper` says.
     // The place that stands with it: 0 where it is of no row.
     #[tactic(auto, unfolding(crate::specs::Refusal::refusal_paper))]
     pub fn place(self) -> usize
@@ -148,6 +149,7 @@ impl Finishes {
         }
     }
 
+    // Kept: a flag beside the poll, as the definition `noted` has them.
     // The list with one poll more, if it ended.
     #[tactic(auto, unfolding(crate::specs::Ended::noted))]
     fn noted(mut self, ended: bool, poll: Finish) -> Finishes
@@ -224,7 +226,7 @@ impl Bench {
             || rows_broken(self)
     }
 
-    // Kept: place and demand apart: document 01 names both of a release, and `Request` has them as one.
+    // Kept: place and demand apart, as this function, `release` and lentbench's ask; `Request` joins them.
     // Whether a release of `demand` at `place` is taken, or refused: the first of 29, 20, 23, 22, 21 decides.
     #[tactic(auto, using(crate::proofs::Permitted::release_cases), unfolding(crate::specs::Refusal::outcome_of))]
     pub fn judge_release(self, place: usize, demand: Ticks) -> Result<(), Refusal>

@@ -18,7 +18,7 @@ use windows::Answer;
 const PLACE_LIMIT: u64 = 4_294_967_296;
 
 // The table of a list of triples: C, D and T of each row.
-// Kept: beside lentrows' own, since C's rows are triples; one generic function would ask for a conversion from each.
+// Kept: beside lentrows' own, since C's rows are triples; one for both would need a conversion more.
 #[tactic(auto, unfolding(lentrows::specs::Loaded::loaded))]
 fn load(rows: &[[u64; 3]]) -> Table
     ensures { result ≡ loaded_table (rows_from rows.now) }

@@ -51,6 +51,7 @@ fn read_board(history: &mut impl Read) -> io::Result<Board> {
     })
 }
 
+// Kept: number and place apart, as the frame has them.
 // No bench was opened: 1, then the fault's number and place.
 fn write_fault(output: &mut Stdout, number: u32, place: usize) -> io::Result<()> {
     let [.., number] = number.to_be_bytes();

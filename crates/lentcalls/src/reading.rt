@@ -28,6 +28,7 @@ fn read_number(bytes: &mut impl Read) -> io::Result<u64> {
     Ok(u64::from_be_bytes(array))
 }
 
+// Kept: beside the one of histories, whose times have four bytes.
 fn read_row(bytes: &mut impl Read) -> io::Result<Row> {
     let c = Ticks(read_number(bytes)?);
     let d = Ticks(read_number(bytes)?);

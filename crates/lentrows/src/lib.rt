@@ -23,6 +23,7 @@ pub struct Told {
     pub shown: usize,
 }
 
+// Kept: beside exports' own, whose rows are triples.
 // The table of the rows of a lent list.
 #[tactic(auto, unfolding(crate::specs::Loaded::loaded))]
 fn load(rows: &[Row]) -> Table
@@ -78,6 +79,7 @@ pub fn answer_for(cores: u32, table: Table, entries: usize) -> Told
     }
 }
 
+// Kept: beside exports' own, which writes numbers.
 // Writes the bounds told into the first entries of a lent list.
 fn write_bounds(told: Told, bounds: &mut [Ticks])
     requires { (told.shown ≤ row_capacity) × (told.shown ≤ length bounds.old) }

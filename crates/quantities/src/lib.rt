@@ -36,7 +36,7 @@ pub struct Table {
 }
 
 // What is wrong with a row list, by the number of document 01: the whole list, or the row at a place.
-// Kept: numbers, since document 01 names this form and edit four_for_five gives one for another.
+// Kept: numbers, since document 01 names this form, and TableAnswer says which number a faulty table gets.
 #[derive(Clone, Copy, Debug, PartialEq, Eq)]
 pub enum Fault {
     WholeList(u32),
@@ -88,6 +88,7 @@ fn check_row(row: Row, place: usize, last: bool) -> Result<(), Fault>
     Ok(())
 }
 
+// Kept: the count is asked here and in bench and is no invariant of a table, since `rows_of` tells of more rows too.
 // Checks 3 to 6 of a table's rows, from the top, row by row.
 fn check_rows(table: Table) -> Result<(), Fault>
     requires { table.count ≤ row_capacity }

@@ -95,7 +95,8 @@ pub enum Record {
     End(usize),
 }
 
-// Kept: a part and a place in it, here and below, as the definition `field` reads.
+// Kept: a part and a place in it, here and in `four_bytes`, as the definition `field` reads; one function of a const
+// size would answer bytes and leave the number to each caller.
 // The number in the two bytes from a place on.
 #[tactic(auto, using(crate::proofs::Bytes::two_be))]
 fn two_bytes(part: &[u8], at: usize) -> u16

@@ -48,7 +48,7 @@ fn low_byte(number: usize) -> u8
     low
 }
 
-// Kept: a buffer and a place in it, here and below, as the definition `sets` lays bytes; what stands behind them stays.
+// Kept: a buffer and a place in it, here and in the next two, as the definition `sets` lays bytes.
 // A poll that ended, in five bytes.
 #[tactic(auto, using(crate::proofs::Writes::put_is_sets))]
 fn put_poll(out: &mut [u8], at: usize, poll: Finish)

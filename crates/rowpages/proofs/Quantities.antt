@@ -5,7 +5,7 @@ use Rattle.rowpages.specs.Quantities.{KeptApart}
 pub kept_apart : KeptApart
 kept_apart =
     record {
-      instants = record { clock = λ b. (_, refl); release = λ instant. (_, refl) };
+      instants = record { clock = λ b. (_, refl); release = λ instant. (_, refl); last_release = λ state. (_, refl) };
       lengths =
           record {
             row = λ row. ((_, refl), (_, refl), (_, refl));

@@ -24,6 +24,7 @@ Is kind quantity = (one : kind) × (quantity ≡ one)
 pub record Instants : Type 0 where
   pub clock : (b : Bench) → Is Instant b.now
   pub release : (instant : Instant) → Is (Option Instant) (Some instant)
+  pub last_release : (state : RowState) → Is (Option Instant) state.last
 
 -- C, D, T, windows and bounds are lengths; so are a demand, what remains of it, and a response.
 pub record Lengths : Type 0 where

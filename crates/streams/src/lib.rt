@@ -85,6 +85,7 @@ pub fn write_frame<W: Write>(output: &mut W, bytes: &[u8]) -> io::Result<()>
     requires { length bytes.now < 2 ^ 16 }
     ensures { OnOk result (Appends (W.contents output.old) (W.contents output.new) (frame_of bytes.now)) }
 {
+    // Kept: a cast, since `try_from` would add an error that the caller rules out.
     let size = bytes.len() as u16;
     output.write_all(&size.to_be_bytes())?;
     output.write_all(bytes)

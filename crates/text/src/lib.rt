@@ -41,6 +41,7 @@ fn line_page(line: Line) -> Page<TEXT_ROOM>
 }
 
 // The first line of a sheet with this many rows, the lines of the first `count` of them, and a last line.
+// Kept: an array with a count, since slices of the bounds at its two calls left `slice_bounds` open.
 #[tactic(auto, unfolding(lines::specs::Lines::line_text))]
 fn bound_page(
     sheet: Sheet,

@@ -7,7 +7,7 @@ ghost use Rattle.windows.specs.Window.{interference};
 use quantities::{Fault, Ticks};
 
 // The answer to a row list: every row has its bound, a row has none, by its number and place, or the list has a fault.
-// Kept: three cases and a number, since document 01 names this form and edit late_told_as_7 gives another number.
+// Kept: three cases and a number, since document 01 names this form and FirstRowNotShown says which number is due.
 #[derive(Clone, Copy, Debug, PartialEq, Eq)]
 pub enum Answer {
     Shown,
