@@ -148,9 +148,9 @@ pub record RecordAnswer (part : List ℕ) (r : Record) : Type 0 where
   pub no_byte : part ≡ [] → r ≡ Missing
   pub unknown : (kind : ℕ) (rest : List ℕ) → part ≡ kind ∷ rest
       → (kind ≡ 1 → ⊥) → (kind ≡ 2 → ⊥) → (kind ≡ 3 → ⊥) → r ≡ Unknown
-  pub cut_board : (rest : List ℕ) → part ≡ 1 ∷ rest → length rest < 3 → r ≡ Cut kinds.Board
-  pub cut_row : (rest : List ℕ) → part ≡ 2 ∷ rest → length rest < 16 → r ≡ Cut kinds.Row
-  pub cut_end : part ≡ 3 ∷ [] → r ≡ Cut kinds.End
+  pub cut_board : (rest : List ℕ) → part ≡ 1 ∷ rest → length rest < 3 → r ≡ Cut 1
+  pub cut_row : (rest : List ℕ) → part ≡ 2 ∷ rest → length rest < 16 → r ≡ Cut 2
+  pub cut_end : part ≡ 3 ∷ [] → r ≡ Cut 3
   pub board : (cores tick : ℕ) (rest : List ℕ) → BoardFits cores tick → part ≡ board_bytes cores tick ++ rest
       → r ≡ Board cores (record { 0 = tick })
   pub row : (label priority c d t : ℕ) (rest : List ℕ) → RowFits label priority c d t

@@ -17,7 +17,7 @@ use Rattle.windows.specs.Least.{first_of, least}
 use Rattle.windows.specs.Bound.{window, bounds_below}
 use Rattle.windows.specs.Answer.{Judged, verdict, judged_after, judged}
 use Rattle.records.specs.Bytes.{number_after, field}
-use Rattle.records.specs.Records.{record_length, kind_of, row_fields, whole_record, record_on, is_row_kind, is_end}
+use Rattle.records.specs.Records.{record_length, row_fields, whole_record, record_on, is_row_kind, is_end}
 use Rattle.entries.specs.Entries.{ticks_of, row_in, board_sheet, entries_of, used, inserted, with_entry, table_with, table_in, table_of}
 use Rattle.sheet.specs.Checks.{misplaced, board_checks, end_checks, record_checks, verdict_of}
 use Rattle.sheet.specs.Checks.{row_record_checks as record_row_checks}
@@ -106,7 +106,7 @@ crossed : (order : List Row → List Row) → AsTheRecordsStand order
     → judges_in_order order sheet_of_document
     ≡ ascii "cores 2 tick 100 rows 3\n1 101 2 5\n2 102 2 8\n3 110 5 4\nall shown\n"
 unfolding judged_text bound_lines first_line row_line row_lines shown_line decimal digits_in read_of closed first_sheet_of first_from unread ended new_reading
-    no_sheet board_sheet record_on record_length kind_of is_row_kind is_end whole_record row_fields field number_after record_checks misplaced
+    no_sheet board_sheet record_on record_length is_row_kind is_end whole_record row_fields field number_after record_checks misplaced
     board_checks record_row_checks end_checks verdict_of after_record with_entry inserted entries_of row_in ticks_of used whole
     refused table_of table_in table_with with_row empty_table rows_of row_checks rows_checks list_checks first_failing fault_from list_fault
     plain carry limit interference most passes first_of least window bounds_below verdict judged_after judged

@@ -1,7 +1,7 @@
 -- Laws of a record: what stands on a part, by its kind byte and its length.
 use Prim.Native.Nat.{ℕ, suc, ◌≤◌, ◌<◌}
 use native.Mathlib.Omega.{arith}
-use mathlib.Core.Path.{◌≡◌, refl, ap, ◌∙◌}
+use mathlib.Core.Path.{◌≡◌, refl, sym, ap, ◌∙◌}
 use mathlib.Core.Bool.{Bool, true, false, cond}
 use mathlib.Core.List.{List, [], ◌∷◌}
 use lib.Dec.{eqb, ltb}
@@ -101,12 +101,12 @@ module _ (part : List ℕ) where
       at (kind ∷ body) h e = simp (eq-eqb (record_length kind) 0 e)
 
   pub on_cut : 0 < length part → (record_length (get_or part 0 0) ≡ 0 → ⊥) → length part < record_length (get_or part 0 0)
-      → record_on part ≡ Cut (kind_of (get_or part 0 0))
+      → record_on part ≡ Cut (get_or part 0 0)
   unfolding record_on
   on_cut = at part
     where
       at : (some : List ℕ) → 0 < length some → (record_length (get_or some 0 0) ≡ 0 → ⊥) → length some < record_length (get_or some 0 0)
-          → record_on some ≡ Cut (kind_of (get_or some 0 0))
+          → record_on some ≡ Cut (get_or some 0 0)
       at [] h known short = absurd (omega arith)
       at (kind ∷ body) h known short =
           simp (ne_eqb (record_length kind) 0 known, lt-ltb (suc (length body)) (record_length kind) short)
@@ -137,6 +137,12 @@ number_of_kind byte some =
           ]
     ]
 
+-- a record cut short is of the kind that its first byte stands for
+pub cut_of_kind : (part : List ℕ) → 0 < length part → (record_length (get_or part 0 0) ≡ 0 → ⊥)
+    → length part < record_length (get_or part 0 0) → record_on part ≡ Cut (kind_number (kind_of (get_or part 0 0)))
+cut_of_kind part some known short =
+    on_cut part some known short ∙ ap Cut (sym (number_of_kind (get_or part 0 0) (omega arith)))
+
 -- What stands on a part, by its first byte.
 pub on_none : (part : List ℕ) → slice_get part 0 ≡ None → record_on part ≡ Missing
 unfolding record_on
@@ -154,23 +160,23 @@ kind_first : (kind : Kind) (body : List ℕ)
     → record_on (kind_number kind ∷ body)
     ≡ cond
     (ltb (suc (length body)) (record_length (kind_number kind)))
-    (Cut kind)
+    (Cut (kind_number kind))
     (whole_record (kind_number kind) (kind_number kind ∷ body))
-unfolding record_on record_length kind_of
+unfolding record_on record_length
 kind_first kinds.Board body = refl
 kind_first kinds.Row body = refl
 kind_first kinds.End body = refl
 
 on_kind : (part : List ℕ) (kind : Kind) → slice_get part 0 ≡ Some (kind_number kind)
     → record_on part
-    ≡ cond (ltb (length part) (record_length (kind_number kind))) (Cut kind) (whole_record (kind_number kind) part)
+    ≡ cond (ltb (length part) (record_length (kind_number kind))) (Cut (kind_number kind)) (whole_record (kind_number kind) part)
 on_kind [] kind e = cc
 on_kind (first ∷ body) kind e =
     let same : first ≡ kind_number kind = cc in
     rw same (kind_first kind body)
 
 pub on_short : (part : List ℕ) (kind : Kind) → slice_get part 0 ≡ Some (kind_number kind)
-    → length part < record_length (kind_number kind) → record_on part ≡ Cut kind
+    → length part < record_length (kind_number kind) → record_on part ≡ Cut (kind_number kind)
 on_short part kind e short = on_kind part kind e ∙ simp (lt-ltb _ _ short)
 
 on_long : (part : List ℕ) (kind : Kind) → slice_get part 0 ≡ Some (kind_number kind)
@@ -220,7 +226,7 @@ module _ (part : List ℕ) (kind : Kind) (first : slice_get part 0 ≡ Some (kin
 pub data Found (part : List ℕ) : Record → Type 0 where
   nothing : length part ≡ 0 → Found part Missing
   unknown : 0 < length part → record_length (get_or part 0 0) ≡ 0 → Found part Unknown
-  cut : 0 < length part → length part < record_length (get_or part 0 0) → Found part (Cut (kind_of (get_or part 0 0)))
+  cut : 0 < length part → length part < record_length (get_or part 0 0) → Found part (Cut (get_or part 0 0))
   board : kind_on part ≡ board_kind → board_length ≤ length part → Found part (Board (cores_on part) (tick_on part))
   row : is_row_kind (kind_on part) ≡ true → size_on part ≤ length part → Found part (Row (row_fields part))
   end : kind_on part ≡ end_kind → end_length ≤ length part → Found part (End (count_on part))

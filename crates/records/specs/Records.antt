@@ -108,7 +108,7 @@ unfoldable pub record_on : List ℕ → Record
 record_on [] = Missing
 record_on (kind ∷ body) =
     cond (eqb (record_length kind) 0) Unknown
-    (cond (ltb (suc (length body)) (record_length kind)) (Cut (kind_of kind)) (whole_record kind (kind ∷ body)))
+    (cond (ltb (suc (length body)) (record_length kind)) (Cut kind) (whole_record kind (kind ∷ body)))
 
 -- whether a record is the end record
 unfoldable pub is_end : Record → Bool

@@ -16,6 +16,13 @@ pub enum Kind {
     End,
 }
 
+// The bytes that stand for them.
+pub const BOARD_KIND: u8 = 1;
+
+pub const ROW_KIND: u8 = 2;
+
+pub const END_KIND: u8 = 3;
+
 // A byte that stands for no kind.
 #[derive(Clone, Copy, Debug, PartialEq, Eq, PartialOrd, Ord, Hash)]
 pub struct UnknownKind(pub u8);
@@ -28,9 +35,9 @@ impl TryFrom<u8> for Kind {
     #[tactic(auto, unfolding(crate::specs::Records::record_length))]
     fn try_from(byte: u8) -> Result<Kind, UnknownKind> {
         match byte {
-            1 => Ok(Kind::Board),
-            2 => Ok(Kind::Row),
-            3 => Ok(Kind::End),
+            BOARD_KIND => Ok(Kind::Board),
+            ROW_KIND => Ok(Kind::Row),
+            END_KIND => Ok(Kind::End),
             _ => Err(UnknownKind(byte)),
         }
     }
@@ -84,12 +91,13 @@ impl RowFields {
 
 // What stands on the part of a sheet that begins where a record should: no byte, a kind that no record has,
 // a record of this kind that is cut short, or a whole record with its fields.
-// Kept: records and faults in one enum, since `is_end` is asked of both and edit cut_record_is_the_end lies of a fault.
+// Kept: records and faults in one enum, since `is_end` is asked of both and edit cut_record_is_the_end lies of a fault;
+// the byte of a record cut short, and no `Kind`, since `is_end` is asked of each byte.
 #[derive(Clone, Copy, Debug, PartialEq, Eq)]
 pub enum Record {
     Missing,
     Unknown,
-    Cut(Kind),
+    Cut(u8),
     Board(u32, Micros),
     Row(RowFields),
     End(usize),
@@ -140,7 +148,7 @@ pub fn record_on(part: &[u8]) -> Record
     };
     match Kind::try_from(byte) {
         Err(_) => Record::Unknown,
-        Ok(kind) if part.len() < kind.length() => Record::Cut(kind),
+        Ok(kind) if part.len() < kind.length() => Record::Cut(byte),
         Ok(Kind::Board) => Record::Board(u32::from(part[1]), Micros(u64::from(two_bytes(part, 2)))),
         Ok(Kind::Row) => Record::Row(row_fields(part)),
         Ok(Kind::End) => Record::End(usize::from(part[1])),

@@ -12,8 +12,7 @@ use Rattle.laws.specs.Checks.{Check, first_failing}
 use Rattle.quantities.specs.Paper.{Paper}
 use Rattle.quantities.specs.Checks.{check}
 use Rattle.quantities.specs.declared.Micros.{Micros}
-use Rattle.records.specs.Records.{board_kind, row_kind, end_kind, end_length, is_end, kind_number}
-use Rattle.records.specs.declared.Kind.{Kind}
+use Rattle.records.specs.Records.{board_kind, row_kind, end_kind, end_length, is_end}
 use Rattle.records.specs.declared.RowFields.{RowFields}
 use Rattle.records.specs.declared.Record.{Record}
 use Rattle.records.specs.declared.Record.TheVariants.{Missing, Unknown, Cut, Board, Row, End}
@@ -78,19 +77,19 @@ module _ (at left : ℕ) (reading : Reading) where
   unfolding record_checks
   verdict_unknown = verdict_fails 12 at true [] refl
 
-  module _ (kind : Kind) where
-    pub cut_misplaced : misplaced reading.begun (kind_number kind) ≡ true → verdict_of (record_checks at left reading (Cut kind)) ≡ Err (fault 13 at)
+  module _ (kind : ℕ) where
+    pub cut_misplaced : misplaced reading.begun kind ≡ true → verdict_of (record_checks at left reading (Cut kind)) ≡ Err (fault 13 at)
     unfolding record_checks
     cut_misplaced e = verdict_fails 13 at _ (check 11 at true ∷ []) e
 
-    pub cut_placed : misplaced reading.begun (kind_number kind) ≡ false → verdict_of (record_checks at left reading (Cut kind)) ≡ Err (fault 11 at)
+    pub cut_placed : misplaced reading.begun kind ≡ false → verdict_of (record_checks at left reading (Cut kind)) ≡ Err (fault 11 at)
     unfolding record_checks
     cut_placed e = verdict_passes 13 at _ (check 11 at true ∷ []) e ∙ verdict_fails 11 at true [] refl
 
     pub cut_not_sound : verdict_of (record_checks at left reading (Cut kind)) ≡ Ok tt → ⊥
-    cut_not_sound s = go (misplaced reading.begun (kind_number kind)) refl
+    cut_not_sound s = go (misplaced reading.begun kind) refl
       where
-        go : (b : Bool) → misplaced reading.begun (kind_number kind) ≡ b → ⊥
+        go : (b : Bool) → misplaced reading.begun kind ≡ b → ⊥
         go true e = sound_not_refused 13 at (sym (cut_misplaced e) ∙ s)
         go false e = sound_not_refused 11 at (sym (cut_placed e) ∙ s)
 

@@ -12,7 +12,7 @@ use borrow.Author.Tests.{lt-ltb}
 use Rattle.laws.proofs.Lists.{drop_take}
 use Rattle.laws.proofs.Tests.{not_one}
 use Rattle.quantities.specs.Limits.{row_capacity}
-use Rattle.records.specs.Records.{kind_of, board_kind, row_kind, board_length, end_length, longest_record, kind_on, size_on}
+use Rattle.records.specs.Records.{board_kind, row_kind, board_length, end_length, longest_record, kind_on, size_on}
 use Rattle.records.specs.Records.{cores_on, tick_on, row_fields, record_on, is_end}
 use Rattle.records.specs.declared.Record.{Record}
 use Rattle.records.specs.declared.Record.TheVariants.{Missing, Unknown, Cut, Board, Row, End}
@@ -86,7 +86,7 @@ steady_next : (part : List ℕ) (reading : Reading) (at left : ℕ) → Steady r
 unfolding after_record is_end board_sheet
 steady_next part reading at left st one (nothing e) s l = absurd (missing_not_sound at left reading s)
 steady_next part reading at left st one (unknown m e) s l = absurd (unknown_not_sound at left reading s)
-steady_next part reading at left st one (cut m short) s l = absurd (cut_not_sound at left reading (kind_of (get_or part 0 0)) s)
+steady_next part reading at left st one (cut m short) s l = absurd (cut_not_sound at left reading (get_or part 0 0) s)
 steady_next part reading at left st one (board kind long) s l =
     let start = st.new (not_begun reading.begun (λ e. sound_not_refused 13 at (sym (board_misplaced at left reading (cores_on part) (tick_on part) e) ∙ s))) in
     record { new = λ e. absurd (both_ways true refl e); near = omega (arith, size_board part kind); few = omega arith }

@@ -10,7 +10,7 @@ use lib.Dec.{ltb}
 use lib.Seq.{drop-drop}
 use borrow.Author.Tests.{lt-ltb, le-ltb, ltb-true, ltb-false}
 use Rattle.laws.proofs.Tests.{not_one}
-use Rattle.records.specs.Records.{kind_of, end_length, kind_on, record_on, size_on, is_end}
+use Rattle.records.specs.Records.{end_length, kind_on, record_on, size_on, is_end}
 use Rattle.records.specs.declared.Record.{Record}
 use Rattle.records.proofs.Records.{Found, nothing, unknown, cut, board, row, end, found, row_some, size_board, size_end}
 use Rattle.sheet.specs.Checks.{record_checks, own_checks, verdict_of}
@@ -43,7 +43,7 @@ pub sound_within : (at left : ℕ) (reading : Reading) (part : List ℕ) (r : Re
     → verdict_of (record_checks at left reading r) ≡ Ok tt → Within (size_on part) (length part)
 sound_within at left reading part r (nothing e) s = absurd (missing_not_sound at left reading s)
 sound_within at left reading part r (unknown h e) s = absurd (unknown_not_sound at left reading s)
-sound_within at left reading part r (cut h short) s = absurd (cut_not_sound at left reading (kind_of (get_or part 0 0)) s)
+sound_within at left reading part r (cut h short) s = absurd (cut_not_sound at left reading (get_or part 0 0) s)
 sound_within at left reading part r (board e l) s =
     record { some = omega (arith, size_board part e); all = omega (arith, size_board part e) }
 sound_within at left reading part r (row is l) s = record { some = row_some (kind_on part) is; all = l }

@@ -15,7 +15,7 @@ use Rattle.laws.proofs.Permuted.{permuted_back, permuted_move}
 use Rattle.laws.proofs.Tests.{not_one}
 use Rattle.quantities.specs.Limits.{row_capacity}
 use Rattle.quantities.specs.declared.Micros.{Micros}
-use Rattle.records.specs.Records.{kind_of, board_kind, board_length, size_on, cores_on, tick_on, count_on, row_fields}
+use Rattle.records.specs.Records.{board_kind, board_length, size_on, cores_on, tick_on, count_on, row_fields}
 use Rattle.records.specs.Records.{record_on, is_end, OneRecord, RowRecord}
 use Rattle.records.specs.declared.Record.{Record}
 use Rattle.records.proofs.Records.{Found, nothing, unknown, cut, board, row, end, found, size_board}
@@ -99,7 +99,7 @@ module _ (sheet : List ℕ) where
       absurd (sound_not_refused 13 0 (sym (row_misplaced 0 (length sheet) new_reading (row_fields sheet) refl) ∙ s))
   known_board one (end kind long) s =
       absurd (sound_not_refused 13 0 (sym (end_misplaced 0 (length sheet) new_reading (count_on sheet) refl) ∙ s))
-  known_board one (cut h short) s = absurd (cut_not_sound 0 (length sheet) new_reading (kind_of (get_or sheet 0 0)) s)
+  known_board one (cut h short) s = absurd (cut_not_sound 0 (length sheet) new_reading (get_or sheet 0 0) s)
   known_board one (unknown h e) s = absurd (unknown_not_sound 0 (length sheet) new_reading s)
   known_board one (nothing e) s = absurd (missing_not_sound 0 (length sheet) new_reading s)
 
@@ -120,7 +120,7 @@ module _ (sheet : List ℕ) where
   known_row at part cores tick entries one (board kind long) s last =
       absurd (sound_not_refused 13 at (sym (board_misplaced at (length part) (rows_at cores tick entries) (cores_on part) (tick_on part) refl) ∙ s))
   known_row at part cores tick entries one (cut h short) s last =
-      absurd (cut_not_sound at (length part) (rows_at cores tick entries) (kind_of (get_or part 0 0)) s)
+      absurd (cut_not_sound at (length part) (rows_at cores tick entries) (get_or part 0 0) s)
   known_row at part cores tick entries one (unknown h e) s last =
       absurd (unknown_not_sound at (length part) (rows_at cores tick entries) s)
   known_row at part cores tick entries one (nothing e) s last =

@@ -8,7 +8,7 @@ use lib.ListN.{length, get_or, take, drop, take-append-drop}
 use Rattle.laws.specs.Each.{Each}
 use Rattle.quantities.specs.Limits.{row_capacity}
 use Rattle.quantities.specs.declared.Micros.{Micros}
-use Rattle.records.specs.Records.{kind_of, board_kind, end_kind, board_length, is_row_kind, kind_on, size_on}
+use Rattle.records.specs.Records.{board_kind, end_kind, board_length, is_row_kind, kind_on, size_on}
 use Rattle.records.specs.Records.{cores_on, tick_on, count_on, row_fields, record_on, OneRecord, RowRecord}
 use Rattle.records.specs.declared.Record.{Record}
 use Rattle.records.proofs.Records.{Found, nothing, unknown, cut, board, row, end, found, length_end}
@@ -105,7 +105,7 @@ module _ (cores : ℕ) (tick : Micros) where
   rest_step limit entries at part later one (board kind long) s sound =
       absurd (sound_not_refused 13 at (sym (board_misplaced at (length part) (rows_at cores tick entries) (cores_on part) (tick_on part) refl) ∙ s))
   rest_step limit entries at part later one (cut h short) s sound =
-      absurd (cut_not_sound at (length part) (rows_at cores tick entries) (kind_of (get_or part 0 0)) s)
+      absurd (cut_not_sound at (length part) (rows_at cores tick entries) (get_or part 0 0) s)
   rest_step limit entries at part later one (unknown h e) s sound =
       absurd (unknown_not_sound at (length part) (rows_at cores tick entries) s)
   rest_step limit entries at part later one (nothing e) s sound =
@@ -161,7 +161,7 @@ made_step sheet one (row kind long) s sound =
     absurd (sound_not_refused 13 0 (sym (row_misplaced 0 (length sheet) new_reading (row_fields sheet) refl) ∙ s))
 made_step sheet one (end kind long) s sound =
     absurd (sound_not_refused 13 0 (sym (end_misplaced 0 (length sheet) new_reading (count_on sheet) refl) ∙ s))
-made_step sheet one (cut h short) s sound = absurd (cut_not_sound 0 (length sheet) new_reading (kind_of (get_or sheet 0 0)) s)
+made_step sheet one (cut h short) s sound = absurd (cut_not_sound 0 (length sheet) new_reading (get_or sheet 0 0) s)
 made_step sheet one (unknown h e) s sound = absurd (unknown_not_sound 0 (length sheet) new_reading s)
 made_step sheet one (nothing e) s sound = absurd (missing_not_sound 0 (length sheet) new_reading s)
 

@@ -6,7 +6,7 @@ use Rattle.laws.specs.Checks.{Check, first_failing}
 use Rattle.quantities.specs.Paper.{Paper}
 use Rattle.quantities.specs.Checks.{check}
 use Rattle.quantities.specs.declared.Micros.{Micros}
-use Rattle.records.specs.Records.{board_kind, row_kind, end_kind, end_length, kind_number}
+use Rattle.records.specs.Records.{board_kind, row_kind, end_kind, end_length}
 use Rattle.records.specs.declared.Record.{Record}
 use Rattle.records.specs.declared.Record.TheVariants.{Missing, Unknown, Cut, Board, Row, End}
 use Rattle.entries.specs.Entries.{entries_of, used}
@@ -49,7 +49,7 @@ place_check at reading kind = check 13 at (misplaced reading.begun kind)
 unfoldable pub record_checks : ℕ → ℕ → Reading → Record → List (Check Paper)
 record_checks at left reading Missing = check 11 at true ∷ []
 record_checks at left reading Unknown = check 12 at true ∷ []
-record_checks at left reading (Cut kind) = place_check at reading (kind_number kind) ∷ check 11 at true ∷ []
+record_checks at left reading (Cut kind) = place_check at reading kind ∷ check 11 at true ∷ []
 record_checks at left reading (Board cores tick) = place_check at reading board_kind ∷ board_checks at tick
 record_checks at left reading (Row fields) =
     place_check at reading row_kind ∷ row_record_checks at reading.sheet fields.priority

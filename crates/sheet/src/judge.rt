@@ -1,22 +1,23 @@
 //! The checks of a record, in the order of document 01.
 ghost use Rattle.std.specs.Prelude.{◌≡◌, [], ◌∷◌};
-ghost use Rattle.records.specs.Records.{end_length, kind_number};
+ghost use Rattle.records.specs.Records.{end_length};
 ghost use Rattle.sheet.specs.Checks.{place_check, board_checks, row_record_checks, end_checks};
 ghost use Rattle.sheet.specs.Checks.{own_checks, verdict_of};
 
 use crate::{Reading, SheetFault};
 use entries::Sheet;
 use quantities::{Micros, Table};
-use records::{Kind, Record};
+use records::{BOARD_KIND, END_KIND, ROW_KIND, Record};
 
 const TOP_PRIORITY: u32 = 999;
 
 // A record of this kind stands where it must not: the first one that is no board, or a later board.
+// Kept: the kind's byte, since that of a record cut short may be any.
 #[tactic(auto, unfolding(crate::specs::Checks::misplaced, crate::specs::Checks::verdict_of, laws::specs::Checks::first_failing))]
-fn check_place(reading: Reading, kind: Kind, place: usize) -> Result<(), SheetFault>
-    ensures { result ≡ verdict_of (place_check place reading (kind_number kind) ∷ []) }
+fn check_place(reading: Reading, kind: u8, place: usize) -> Result<(), SheetFault>
+    ensures { result ≡ verdict_of (place_check place reading kind ∷ []) }
 {
-    if reading.begun == (kind == Kind::Board) {
+    if reading.begun == (kind == BOARD_KIND) {
         return Err(SheetFault { number: 13, place });
     }
     Ok(())
@@ -72,15 +73,15 @@ pub fn check_record(reading: Reading, found: Record, place: usize) -> Result<(),
             Err(SheetFault { number: 11, place })
         }
         Record::Board(_, tick) => {
-            check_place(reading, Kind::Board, place)?;
+            check_place(reading, BOARD_KIND, place)?;
             check_board(tick, place)
         }
         Record::Row(fields) => {
-            check_place(reading, Kind::Row, place)?;
+            check_place(reading, ROW_KIND, place)?;
             check_row(reading.sheet, fields.priority, place)
         }
         Record::End(count) => {
-            check_place(reading, Kind::End, place)?;
+            check_place(reading, END_KIND, place)?;
             check_end(reading.sheet, count, place)
         }
     }

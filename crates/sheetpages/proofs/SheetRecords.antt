@@ -15,7 +15,7 @@ use Rattle.laws.proofs.Checks.{failing_behind}
 use Rattle.quantities.specs.Paper.{Paper, paper}
 use Rattle.quantities.specs.Checks.{check}
 use Rattle.records.specs.Bytes.{number_after, field}
-use Rattle.records.specs.Records.{record_length, kind_of, is_row_kind, row_fields, record_on, is_end}
+use Rattle.records.specs.Records.{record_length, is_row_kind, row_fields, record_on, is_end}
 use Rattle.records.specs.declared.Record.TheVariants.{Board, Row}
 use Rattle.records.proofs.Records.{length_row}
 use Rattle.records.proofs.Parts.{on_board, on_row, on_end}
@@ -227,7 +227,7 @@ thirty_two_taken =
     )
 
 pub parts_told : PartsTold
-unfolding record_on record_length kind_of is_end
+unfolding record_on record_length is_end
 parts_told =
     record {
       no_byte = refl;

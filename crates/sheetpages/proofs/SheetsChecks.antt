@@ -15,11 +15,11 @@ use Rattle.quantities.specs.Paper.{Paper}
 use Rattle.quantities.specs.Checks.{check}
 use Rattle.quantities.specs.declared.Micros.{Micros}
 use Rattle.records.specs.Bytes.{field}
-use Rattle.records.specs.Records.{record_length, kind_number, kind_of, cores_on, tick_on, count_on, row_fields, record_on}
+use Rattle.records.specs.Records.{record_length, cores_on, tick_on, count_on, row_fields, record_on}
 use Rattle.records.specs.declared.Record.{Record}
 use Rattle.records.specs.declared.Record.TheVariants.{Cut}
 use Rattle.records.proofs.Bytes.{field_one, field_two, field_four}
-use Rattle.records.proofs.Records.{Found, nothing, unknown, cut, board, row, end, found, row_kind_lem, row_length_lem, number_of_kind}
+use Rattle.records.proofs.Records.{Found, nothing, unknown, cut, board, row, end, found, row_kind_lem, row_length_lem}
 use Rattle.entries.specs.Entries.{used, sheet_of}
 use Rattle.sheet.specs.Checks.{misplaced, board_checks, row_record_checks, end_checks, record_checks, fault, verdict_of}
 use Rattle.sheet.specs.Reader.{new_reading}
@@ -137,13 +137,11 @@ unknown_kind kind = go (eqb kind 1) (eqb kind 2) (eqb kind 3)
 record OfLength (kind : ℕ) : Type 0 where
   is : known kind ≡ true
   takes : record_length kind ≡ 1 + body_length kind
-  numbered : kind_number (kind_of kind) ≡ kind
 
 of_length : (kind : ℕ) → 0 < record_length kind → OfLength kind
 unfolding record_length
 of_length kind some =
-    let both = go (eqb kind 1) (eqb kind 2) (eqb kind 3) some in
-    record { is = both.0; takes = both.1; numbered = number_of_kind kind some }
+    let both = go (eqb kind 1) (eqb kind 2) (eqb kind 3) some in record { is = both.0; takes = both.1 }
   where
     go : (a b c : Bool) → 0 < cond a 4 (cond b 17 (cond c 2 0))
         → ((a || b || c) ≡ true)
@@ -157,7 +155,7 @@ of_length kind some =
 cut_verdict : (sheet : List ℕ) (at left : ℕ) (reading : Reading) (wrong : Bool) (rest : List (Check Paper))
     → at < length sheet → length sheet < at + record_length (byte sheet at) → misplaced reading.begun (byte sheet at) ≡ wrong
     → verdict_of (common_order sheet at wrong ++ rest)
-    ≡ verdict_of (record_checks at left reading (Cut (kind_of (byte sheet at))))
+    ≡ verdict_of (record_checks at left reading (Cut (byte sheet at)))
 cut_verdict sheet at left reading wrong rest some short = go wrong
   where
     kind : OfLength (byte sheet at)
@@ -165,13 +163,13 @@ cut_verdict sheet at left reading wrong rest some short = go wrong
 
     go : (b : Bool) → misplaced reading.begun (byte sheet at) ≡ b
         → verdict_of (common_order sheet at b ++ rest)
-        ≡ verdict_of (record_checks at left reading (Cut (kind_of (byte sheet at))))
+        ≡ verdict_of (record_checks at left reading (Cut (byte sheet at)))
     go true e =
         out_of_place sheet at true rest some kind.is refl
-        ∙ sym (cut_misplaced at left reading (kind_of (byte sheet at)) (rw kind.numbered e))
+        ∙ sym (cut_misplaced at left reading (byte sheet at) e)
     go false e =
         cut_short sheet at false rest some kind.is refl (omega (arith, kind.takes))
-        ∙ sym (cut_placed at left reading (kind_of (byte sheet at)) (rw kind.numbered e))
+        ∙ sym (cut_placed at left reading (byte sheet at) e)
 
 -- The board record.
 module _ (sheet : List ℕ) where

@@ -2,8 +2,6 @@
 use Rattle.std.specs.Prelude.{ℕ, zero, suc, ◌+◌, ◌/◌, ◌%◌, ◌≤◌, ◌<◌, ◌≡◌, true, false, List, [], ◌∷◌, ◌++◌, length, Ok}
 use Rattle.laws.specs.Each.{Each}
 use Rattle.records.specs.Records.{record_on, size_on, is_end}
-use Rattle.records.specs.declared.Kind.{Kind}
-use Rattle.records.specs.declared.Kind.TheVariants as kinds
 use Rattle.records.specs.declared.RowFields.{RowFields}
 use Rattle.records.specs.declared.Record.TheVariants.{Missing, Unknown, Cut, Board, Row, End}
 use Rattle.sheet.specs.Reader.{read_of}
@@ -69,9 +67,9 @@ pub record PartsTold : Type 0 where
   pub no_byte : record_on [] ≡ Missing
   pub unknown : (kind : ℕ) (rest : List ℕ) → (kind ≡ 1 → ⊥) → (kind ≡ 2 → ⊥) → (kind ≡ 3 → ⊥)
       → record_on (kind ∷ rest) ≡ Unknown
-  pub cut_board : (rest : List ℕ) → length rest < 3 → record_on (1 ∷ rest) ≡ Cut kinds.Board
-  pub cut_row : (rest : List ℕ) → length rest < 16 → record_on (2 ∷ rest) ≡ Cut kinds.Row
-  pub cut_end : record_on (3 ∷ []) ≡ Cut kinds.End
+  pub cut_board : (rest : List ℕ) → length rest < 3 → record_on (1 ∷ rest) ≡ Cut 1
+  pub cut_row : (rest : List ℕ) → length rest < 16 → record_on (2 ∷ rest) ≡ Cut 2
+  pub cut_end : record_on (3 ∷ []) ≡ Cut 3
   pub size_of_board : (rest : List ℕ) → size_on (1 ∷ rest) ≡ 4
   pub size_of_row : (rest : List ℕ) → size_on (2 ∷ rest) ≡ 17
   pub size_of_end : (rest : List ℕ) → size_on (3 ∷ rest) ≡ 2
@@ -79,7 +77,7 @@ pub record PartsTold : Type 0 where
   pub size_of_unknown : (kind : ℕ) (rest : List ℕ) → (kind ≡ 1 → ⊥) → (kind ≡ 2 → ⊥) → (kind ≡ 3 → ⊥)
       → size_on (kind ∷ rest) ≡ 0
   pub the_end : (count : ℕ) → is_end (End count) ≡ true
-  pub no_end : (fields : RowFields) (cores tick : ℕ) (kind : Kind)
+  pub no_end : (fields : RowFields) (cores tick kind : ℕ)
       → (is_end (Row fields) ≡ false)
       × (is_end (Board cores (record { 0 = tick })) ≡ false)
       × (is_end (Cut kind) ≡ false)
