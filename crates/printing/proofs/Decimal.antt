@@ -3,7 +3,8 @@ use Prim.Native.Nat.{ℕ, zero, suc, ◌+◌, ◌-◌, ◌*◌, ◌/◌, ◌%◌
 use native.Mathlib.Omega.{arith}
 use mathlib.Core.Path.{◌≡◌, refl, sym, ap, ◌∙◌}
 use mathlib.Core.List.{List, [], ◌∷◌, ◌++◌}
-use lib.ListN.{length, get_or}
+use lib.ListN.{length, get_or, length-append}
+use native.Mathlib.Nat.{pow-suc}
 use native.Mathlib.Decide.{dec_lt}
 use Rattle.std.proofs.lemmas.Fmt.{decimal_from_appends, length-decimal-le_succ, length-decimal-le}
 use Rattle.std.specs.Fmt as std
@@ -43,6 +44,17 @@ unfolding decimal
 decimal_more n h =
     digits_more n n h
     ∙ ap (λ (ds : List ℕ). ds ++ (digit (n % 10) ∷ [])) (digits_same n (suc (n / 10)) (n / 10) (omega arith) (omega arith))
+
+-- a number below a power of ten has no more digits than that
+pub decimal_short : (k n : ℕ) → n < 10 ^ suc k → length (decimal n) ≤ suc k
+decimal_short zero n h = rw (decimal_one n h) (omega arith)
+decimal_short (suc k) n h =
+    elim (dec_lt n 10) [
+      | yes one ↦ rw (decimal_one n one) (omega arith)
+      | no more ↦
+          let tenth = decimal_short k (n / 10) (omega (arith, pow-suc 10 (suc k))) in
+          omega (arith, simp length-append at (ap length (decimal_more n (omega arith))))
+    ]
 
 -- the library's digits of a number in 64 bits are these
 pub decimal_as_std : (n : ℕ) → n < 2 ^ 64 → std.decimal n ≡ decimal n

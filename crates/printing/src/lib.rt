@@ -56,7 +56,7 @@ impl<const ROOM: usize> Page<ROOM> {
     // Kept: the place beside the buffer, by the edit lent_bytes_moved, which tells a lie only of a place behind 0.
     #[tactic(auto, unfolding(crate::specs::Buffer::overlaid))]
     pub fn put(&self, out: &mut [u8], at: usize) -> usize
-        requires { at + ROOM ≤ length out.old }
+        requires { at + length self.now ≤ length out.old }
         ensures puts { Puts out.old at self.now out.new result }
         ensures short { length self.now ≤ ROOM }
     {

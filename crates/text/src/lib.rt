@@ -1,13 +1,13 @@
 //! The text of a sheet's answer, as the program prints it: document 01, "One sheet through the program".
 #![tactic(auto)]
 
-ghost use Rattle.std.specs.Prelude.{◌≡◌, ◌≤◌, ◌++◌, take};
+ghost use Rattle.std.specs.Prelude.{◌≡◌, ◌≤◌, ◌++◌, [], length, take};
 ghost use Rattle.quantities.specs.Limits.{row_capacity};
 ghost use Rattle.quantities.specs.Paper.{fault_paper};
 ghost use Rattle.quantities.specs.Lengths.{numbers};
 ghost use Rattle.lines.specs.Lines.{line_text};
 ghost use Rattle.text.specs.Text.{lines_up_to, paper_line, sheet_text, text_of};
-ghost use Rattle.text.specs.Printed.{Printed};
+ghost use Rattle.text.specs.Printed.{text_room, Printed};
 
 use analysis::{Analysis, analyse};
 use entries::Sheet;
@@ -31,68 +31,65 @@ fn fault_line(fault: Fault) -> Line
     }
 }
 
-// The text of one line.
-fn line_page(line: Line) -> Page<TEXT_ROOM>
-    ensures { result ≡ line_text line }
-{
-    let mut page = Page::default();
-    line.print(&mut page);
-    page
-}
-
-// The first line of a sheet with this many rows, the lines of the first `count` of them, and a last line.
+// Kept: three functions ask for a blank page, whose room the text is known to fit; no type of a page says blank.
+// Prints the first line of a sheet with this many rows, the lines of the first `count` of them, and a last line.
 // Kept: an array with a count, since slices of the bounds at its two calls left `slice_bounds` open.
 #[tactic(auto, unfolding(lines::specs::Lines::line_text))]
-fn bound_page(
+fn print_bounds(
+    page: &mut Page<TEXT_ROOM>,
     sheet: Sheet,
     rows: usize,
     bounds: [Ticks; Table::ROW_CAPACITY],
     count: usize,
     last: Line,
-) -> Page<TEXT_ROOM>
-    requires { count ≤ row_capacity }
-    ensures { result ≡ lines_up_to sheet rows (numbers (take count bounds)) count ++ line_text last }
+)
+    requires blank { page.old ≡ [] }
+    requires few { count ≤ row_capacity }
+    ensures printed { page.new ≡ lines_up_to sheet rows (numbers (take count bounds)) count ++ line_text last }
+    ensures short { length page.new ≤ text_room }
 {
-    let mut page = Page::default();
     Line::First {
         cores: sheet.cores,
         tick: sheet.tick,
         rows,
     }
-    .print(&mut page);
-    print_rows(&mut page, sheet, &bounds[..count]);
-    last.print(&mut page);
-    page
+    .print(page);
+    print_rows(page, sheet, &bounds[..count]);
+    last.print(page);
 }
 
-// The text of a sheet that was read without fault.
-fn sheet_page(sheet: Sheet) -> Page<TEXT_ROOM>
-    ensures { result ≡ sheet_text sheet }
+// Prints the text of a sheet that was read without fault.
+fn print_sheet(page: &mut Page<TEXT_ROOM>, sheet: Sheet)
+    requires blank { page.old ≡ [] }
+    ensures printed { page.new ≡ sheet_text sheet }
+    ensures short { length page.new ≤ text_room }
 {
     let table = sheet.table();
     let rows = table.count;
     let Analysis { answer, bounds } = analyse(sheet.cores, table);
     match answer {
-        Answer::Shown => bound_page(sheet, rows, bounds, rows, Line::Shown),
+        Answer::Shown => print_bounds(page, sheet, rows, bounds, rows, Line::Shown),
         Answer::NotShown(_, place) => {
             let before = place - 1;
             let label = sheet.entries[before].label;
             let last = Line::NotShown { place, label };
-            bound_page(sheet, rows, bounds, before, last)
+            print_bounds(page, sheet, rows, bounds, before, last);
         }
-        Answer::Refused(fault) => line_page(fault_line(fault)),
+        Answer::Refused(fault) => fault_line(fault).print(page),
     }
 }
 
-// The text of a sheet's answer.
+// Prints the text of a sheet's answer on the one page that there is: a page handed on by value is copied each time.
 #[tactic(auto, using(crate::proofs::Text::text_unread, crate::proofs::Text::text_read), unfolding(lines::specs::Lines::line_text))]
-fn answer_page(sheet: &[u8]) -> Page<TEXT_ROOM>
-    ensures { result ≡ text_of sheet.now }
+fn print_text(page: &mut Page<TEXT_ROOM>, sheet: &[u8])
+    requires blank { page.old ≡ [] }
+    ensures printed { page.new ≡ text_of sheet.now }
+    ensures short { length page.new ≤ text_room }
 {
     let outcome = sheet::read(sheet);
     match outcome.verdict {
-        Ok(()) => sheet_page(outcome.sheet),
-        Err(SheetFault { number, place }) => line_page(Line::Refused { number, place }),
+        Ok(()) => print_sheet(page, outcome.sheet),
+        Err(SheetFault { number, place }) => Line::Refused { number, place }.print(page),
     }
 }
 
@@ -105,5 +102,7 @@ pub fn print_answer(sheet: &[u8], out: &mut [u8]) -> usize
     if out.len() < TEXT_ROOM {
         return 0;
     }
-    answer_page(sheet).put(out, 0)
+    let mut page = Page::default();
+    print_text(&mut page, sheet);
+    page.put(out, 0)
 }

@@ -8,5 +8,5 @@ returns-then-out-lt-TEXT_ROOM c = printed_nothing c.args.sheet.now c.args.out.no
 
 pub returns : goal.returns
 returns c =
-    let put = rw c.answer_page.ensures at c.put.ensures in
+    let put = rw c.print_text.ensures.printed at c.put.ensures in
     printed c.args.sheet.now c.args.out.now _ _ (omega arith) put.puts (omega (arith, put.short))
