@@ -80,13 +80,24 @@ pub fn answer_frames<R: Read, F: FnMut(&[u8]) -> io::Result<()>>(
     Ok(())
 }
 
-// Writes the frame of these bytes.
+// The room for a frame of at most three bytes, which goes out in one write with its length; a longer one takes two.
+const SHORT_ROOM: usize = 5;
+
+// Writes the frame of these bytes: a short one whole or not at all, where the output takes it so.
 pub fn write_frame<W: Write>(output: &mut W, bytes: &[u8]) -> io::Result<()>
     requires { length bytes.now < 2 ^ 16 }
     ensures { OnOk result (Appends (W.contents output.old) (W.contents output.new) (frame_of bytes.now)) }
 {
     // Kept: a cast, since `try_from` would add an error that the caller rules out.
     let size = bytes.len() as u16;
-    output.write_all(&size.to_be_bytes())?;
+    let head = size.to_be_bytes();
+    let end = head.len() + bytes.len();
+    if end <= SHORT_ROOM {
+        let mut frame = [0u8; SHORT_ROOM];
+        frame[..2].copy_from_slice(&head);
+        frame[2..end].copy_from_slice(bytes);
+        return output.write_all(&frame[..end]);
+    }
+    output.write_all(&head)?;
     output.write_all(bytes)
 }
