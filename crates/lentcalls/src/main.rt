@@ -7,7 +7,7 @@ ghost use Rattle.bench.specs.Step.{released_of, ticked_of, release, tick};
 ghost use Rattle.lentbench.specs.Lent.{ticks_for};
 
 use bench::{Bench, Released, Ticked};
-use quantities::Ticks;
+use quantities::{Table, Ticks};
 use reading::{Call, read_bench, read_call};
 use std::io;
 use std::io::{ErrorKind, Stdout};
@@ -17,10 +17,15 @@ use writing::{write_bench, write_outcome, write_polls};
 mod reading;
 mod writing;
 
-// The bytes of a bench: its cores (4), instant (8) and row count (2), then an entry for each row that a table has room
-// for, whatever its row count says: C, D, T (8 each), whether the row was released (1), last release, demand and
-// remainder (8 each).
-const BENCH_SIZE: usize = 1582;
+// The bytes of a bench's head: its cores (4), instant (8) and row count (2).
+const HEAD_SIZE: usize = 14;
+
+// The bytes of an entry: C, D, T (8 each), whether the row was released (1), last release, demand and remainder (8
+// each).
+const ENTRY_SIZE: usize = 49;
+
+// The bytes of a bench: its head, then an entry for each row that a table has room for, whatever its row count says.
+const BENCH_SIZE: usize = HEAD_SIZE + ENTRY_SIZE * Table::ROW_CAPACITY;
 
 // The bytes of a call: its kind (1), a place and a demand (8 each). A frame is a bench and calls after it.
 const CALL_SIZE: usize = 17;
@@ -55,24 +60,23 @@ fn lend_run(mut bench: Bench, ticks: Ticks) -> Bench
     bench
 }
 
-// Makes a call and writes its answer. The bench after it comes back.
-fn answer_call(output: &mut Stdout, bench: Bench, call: Call) -> io::Result<Bench> {
+// Makes a call on the bench and writes its answer.
+fn answer_call(output: &mut Stdout, bench: &mut Bench, call: Call) -> io::Result<()> {
     match call {
         Call::Release(place, demand) => {
-            let released = lend_release(bench, place, demand);
-            write_outcome(output, released.outcome, 0)?;
-            Ok(released.bench)
+            let released = lend_release(*bench, place, demand);
+            *bench = released.bench;
+            write_outcome(output, released.outcome, 0)
         }
         Call::Run(ticks) => {
-            let left = lend_run(bench, ticks);
-            write_outcome(output, Ok(()), 0)?;
-            Ok(left)
+            *bench = lend_run(*bench, ticks);
+            write_outcome(output, Ok(()), 0)
         }
         Call::Tick => {
-            let ticked = lend_tick(bench);
+            let ticked = lend_tick(*bench);
+            *bench = ticked.bench;
             write_outcome(output, ticked.outcome, ticked.finishes.count)?;
-            write_polls(output, ticked.finishes)?;
-            Ok(ticked.bench)
+            write_polls(output, ticked.finishes)
         }
     }
 }
@@ -87,7 +91,7 @@ fn answer_frame(output: &mut Stdout, frame: &[u8]) -> io::Result<()> {
     }
     for mut call in calls.chunks_exact(CALL_SIZE) {
         let call = read_call(&mut call)?;
-        bench = answer_call(output, bench, call)?;
+        answer_call(output, &mut bench, call)?;
     }
     write_bench(output, &bench)
 }

@@ -2,7 +2,7 @@
 use bench::{Bench, RowState};
 use quantities::{Instant, Row, Table, Ticks};
 use std::io;
-use std::io::Read;
+use std::io::ErrorKind;
 
 // The kinds of call that are no tick.
 const RELEASE: u8 = 1;
@@ -17,26 +17,29 @@ pub enum Call {
     Tick,
 }
 
-fn read_array<const N: usize>(bytes: &mut impl Read) -> io::Result<[u8; N]> {
-    let mut array = [0u8; N];
-    bytes.read_exact(&mut array)?;
-    Ok(array)
+// Takes an array off the front. A reader's `read_exact` would call memcpy for every number.
+fn read_array<const N: usize>(bytes: &mut &[u8]) -> io::Result<[u8; N]> {
+    let Some((first, rest)) = bytes.split_first_chunk() else {
+        return Err(ErrorKind::UnexpectedEof.into());
+    };
+    *bytes = rest;
+    Ok(*first)
 }
 
-fn read_number(bytes: &mut impl Read) -> io::Result<u64> {
+fn read_number(bytes: &mut &[u8]) -> io::Result<u64> {
     let array = read_array(bytes)?;
     Ok(u64::from_be_bytes(array))
 }
 
 // Kept: beside the one of histories, whose times have four bytes.
-fn read_row(bytes: &mut impl Read) -> io::Result<Row> {
+fn read_row(bytes: &mut &[u8]) -> io::Result<Row> {
     let c = Ticks(read_number(bytes)?);
     let d = Ticks(read_number(bytes)?);
     let t = Ticks(read_number(bytes)?);
     Ok(Row { c, d, t })
 }
 
-fn read_state(bytes: &mut impl Read) -> io::Result<RowState> {
+fn read_state(bytes: &mut &[u8]) -> io::Result<RowState> {
     let [was_released]: [u8; 1] = read_array(bytes)?;
     let last = Instant(read_number(bytes)?);
     let demand = Ticks(read_number(bytes)?);
@@ -50,7 +53,7 @@ fn read_state(bytes: &mut impl Read) -> io::Result<RowState> {
 
 // Reads a bench's head, then a row and its state for every entry: those past the count are kept too, so that a call can
 // be seen to leave them.
-pub fn read_bench(bytes: &mut impl Read) -> io::Result<Bench> {
+pub fn read_bench(bytes: &mut &[u8]) -> io::Result<Bench> {
     let cores = u32::from_be_bytes(read_array(bytes)?);
     let now = Instant(read_number(bytes)?);
     let mut table = Table::empty();
@@ -74,7 +77,7 @@ pub fn read_bench(bytes: &mut impl Read) -> io::Result<Bench> {
 }
 
 // Reads a call: its kind, a place and a demand. A kind that no other call has is a tick, which looks at neither.
-pub fn read_call(bytes: &mut impl Read) -> io::Result<Call> {
+pub fn read_call(bytes: &mut &[u8]) -> io::Result<Call> {
     let [kind]: [u8; 1] = read_array(bytes)?;
     // Kept: `as` is proved to lose nothing here, and `try_from` would add an error that can't come.
     let place = read_number(bytes)? as usize;

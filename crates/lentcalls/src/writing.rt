@@ -1,42 +1,32 @@
 //! The answers to calls and the bench after them, written to standard output.
-use crate::BENCH_SIZE;
+use crate::{BENCH_SIZE, ENTRY_SIZE, HEAD_SIZE};
 use bench::{Bench, Finish, Finishes, Refusal, RowState};
 use quantities::Row;
 use std::io;
 use std::io::{Stdout, Write};
 
-fn put_number(out: &mut impl Write, number: u64) -> io::Result<()> {
-    out.write_all(&number.to_be_bytes())
-}
-
-fn put_row(out: &mut impl Write, row: Row) -> io::Result<()> {
-    put_number(out, row.c.0)?;
-    put_number(out, row.d.0)?;
-    put_number(out, row.t.0)
-}
-
-fn put_state(out: &mut impl Write, state: RowState) -> io::Result<()> {
-    out.write_all(&[u8::from(state.last.is_some())])?;
-    put_number(out, state.last.map_or(0, |last| last.0))?;
-    put_number(out, state.demand.0)?;
-    put_number(out, state.left.0)
-}
-
-fn put_bench(out: &mut impl Write, bench: &Bench) -> io::Result<()> {
-    out.write_all(&bench.cores.to_be_bytes())?;
-    put_number(out, bench.now.0)?;
-    let [.., high, low] = bench.table.count.to_be_bytes();
-    out.write_all(&[high, low])?;
-    for (row, state) in bench.table.rows.iter().zip(&bench.states) {
-        put_row(out, *row)?;
-        put_state(out, *state)?;
-    }
-    Ok(())
+// Each number goes to its place in the entry. A writer's `write_all` would call memcpy for every one.
+fn put_entry(out: &mut [u8; ENTRY_SIZE], row: Row, state: RowState) {
+    out[..8].copy_from_slice(&row.c.0.to_be_bytes());
+    out[8..16].copy_from_slice(&row.d.0.to_be_bytes());
+    out[16..24].copy_from_slice(&row.t.0.to_be_bytes());
+    out[24] = u8::from(state.last.is_some());
+    let last = state.last.map_or(0, |last| last.0);
+    out[25..33].copy_from_slice(&last.to_be_bytes());
+    out[33..41].copy_from_slice(&state.demand.0.to_be_bytes());
+    out[41..].copy_from_slice(&state.left.0.to_be_bytes());
 }
 
 pub fn write_bench(output: &mut Stdout, bench: &Bench) -> io::Result<()> {
     let mut out = [0u8; BENCH_SIZE];
-    put_bench(&mut &mut out[..], bench)?;
+    out[..4].copy_from_slice(&bench.cores.to_be_bytes());
+    out[4..12].copy_from_slice(&bench.now.0.to_be_bytes());
+    let [.., high, low] = bench.table.count.to_be_bytes();
+    out[12..HEAD_SIZE].copy_from_slice(&[high, low]);
+    let (entries, _) = out[HEAD_SIZE..].as_chunks_mut();
+    for ((entry, row), state) in entries.iter_mut().zip(&bench.table.rows).zip(&bench.states) {
+        put_entry(entry, *row, *state);
+    }
     output.write_all(&out)
 }
 
