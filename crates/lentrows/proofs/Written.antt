@@ -1,8 +1,11 @@
--- Laws of a list whose first entries are written: what it holds as numbers, and that the bounds told fit it.
-use Prim.Native.Nat.{ℕ, zero, suc, ◌≤◌}
+-- Laws of a list whose first entries are written: one entry more, its length, and what it holds as numbers.
+use Prim.Native.Nat.{ℕ, zero, suc, ◌≤◌, ◌<◌}
+use native.Mathlib.Omega.{arith}
+use native.Mathlib.Nat.{zero-add}
 use mathlib.Core.Path.{◌≡◌, refl, ap, ◌∙◌}
 use mathlib.Core.List.{List, [], ◌∷◌, ◌++◌}
-use lib.ListN.{take, drop}
+use lib.ListN.{length, set, get_or, take, drop, length-append, length-drop}
+use lib.Seq.{paste-suc, length-take-le}
 use Rattle.quantities.specs.Limits.{row_capacity}
 use Rattle.quantities.specs.Lengths.{numbers}
 use Rattle.quantities.specs.declared.Row.{Row}
@@ -12,6 +15,18 @@ use Rattle.windows.specs.Answer.{Judged, judged_into, bounds_after}
 use Rattle.lentrows.specs.Lent.{LentAnalysis, front_replaced, told_of}
 use Rattle.lentrows.specs.declared.Told.{Told}
 use Rattle.lentrows.proofs.Lent.{bounds_fit}
+
+module _ {A : Type 0} where
+  -- one entry more
+  pub first_next : (i : ℕ) (found before : List A) (none : A) → i < length found → i < length before
+      → set (front_replaced i found before) i (get_or found i none) ≡ front_replaced (suc i) found before
+  first_next i found before none some room = simp zero-add at (paste-suc before 0 found i none (omega arith) some)
+
+  -- the list keeps its length
+  pub first_long : (i : ℕ) (found before : List A) → i ≤ length found → i ≤ length before
+      → length (front_replaced i found before) ≡ length before
+  first_long i found before some room =
+      omega (arith, length-append (take i found) (drop i before), length-take-le i found some, length-drop i before)
 
 -- as numbers
 numbers_drop : (n : ℕ) (before : List Ticks) → numbers (drop n before) ≡ drop n (numbers before)
