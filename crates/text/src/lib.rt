@@ -31,8 +31,8 @@ fn fault_line(fault: Fault) -> Line
     }
 }
 
-// Kept: three functions ask for a blank page, whose room the text is known to fit; no type of a page says blank.
 // Prints the first line of a sheet with this many rows, the lines of the first `count` of them, and a last line.
+// Kept: three functions ask for a blank page, whose room the text is known to fit; no type of a page says blank.
 // Kept: an array with a count, since slices of the bounds at its two calls left `slice_bounds` open.
 #[tactic(auto, unfolding(lines::specs::Lines::line_text))]
 fn print_bounds(
