@@ -1,13 +1,16 @@
 //! A page of text that grows at its end by words and decimal numbers, and is put into a lent buffer.
 #![tactic(auto)]
 
-ghost use Rattle.std.specs.Prelude.{◌≡◌, ◌+◌, ◌≤◌, ◌++◌, length};
+ghost use Rattle.std.specs.Prelude.{◌≡◌, ◌+◌, ◌≤◌, ◌++◌, min, length};
 ghost use Rattle.printing.specs.Decimal.{decimal, number_room};
 ghost use Rattle.printing.specs.Buffer.{Puts};
 
 use arrayvec::ArrayVec;
 use itoa::Buffer;
 use std::marker::Model;
+
+#[cfg(test)]
+mod tests;
 
 /// A text of at most `ROOM` bytes. It grows without an allocator, and a call that has room can't fail.
 #[derive(Clone, Debug, Default, Drop)]
@@ -53,10 +56,11 @@ impl<const ROOM: usize> Page<ROOM> {
     }
 
     /// Puts the text into a lent buffer from a place on, and answers the next place.
+    // Room for the text is enough, and so is room for a whole page, where a caller was not told that the text fits one.
     // Kept: the place beside the buffer, by the edit lent_bytes_moved, which tells a lie only of a place behind 0.
     #[tactic(auto, unfolding(crate::specs::Buffer::overlaid))]
     pub fn put(&self, out: &mut [u8], at: usize) -> usize
-        requires { at + length self.now ≤ length out.old }
+        requires { at + min (length self.now) ROOM ≤ length out.old }
         ensures puts { Puts out.old at self.now out.new result }
         ensures short { length self.now ≤ ROOM }
     {
