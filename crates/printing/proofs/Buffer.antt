@@ -1,12 +1,13 @@
--- Laws of bytes put into a buffer: nothing, one byte, and bytes behind others.
+-- Laws of bytes put into a buffer: nothing, one byte, bytes behind others, and a part that is written over.
 use Prim.Native.Nat.{ℕ, ◌+◌, ◌≤◌, ◌<◌}
 use native.Mathlib.Omega.{arith}
 use native.Mathlib.Nat.{add_assoc}
 use native.Mathlib.Numerals.{add-one}
-use mathlib.Core.Path.{◌≡◌, sym, ap, ◌∙◌}
+use mathlib.Core.Path.{◌≡◌, refl, sym, ap, ◌∙◌}
 use mathlib.Core.List.{List, [], ◌∷◌, ◌++◌, append_assoc, append-nil}
 use lib.ListN.{length, get_or, take, drop, set, length-append, length-drop, take-append-drop}
 use lib.Seq.{append_snoc, length-take-le, take-suc, take_at, drop-append-add, drop-drop, set_split}
+use borrow.Rule.Slice.PartMut.{put_mid}
 use Rattle.printing.specs.Buffer.{overlaid, Puts}
 
 module _ (buffer : List ℕ) (at : ℕ) where
@@ -74,3 +75,10 @@ puts_word b at word c i room h p =
 pub one_put : (buffer : List ℕ) (at : ℕ) (bytes after after' : List ℕ) (next next' : ℕ)
     → Puts buffer at bytes after next → Puts buffer at bytes after' next' → (after ≡ after') × (next ≡ next')
 one_put buffer at bytes after after' next next' a b = (a.lies ∙ sym b.lies, a.ends ∙ sym b.ends)
+
+-- a part that was written over is laid over the buffer
+pub part_laid : (buffer : List ℕ) (at size : ℕ) (part bytes : List ℕ) → part ≡ bytes → size ≡ length bytes
+    → put_mid at size buffer part ≡ overlaid buffer at bytes
+unfolding overlaid
+part_laid buffer at size part bytes same long =
+    rw (same, long) (ap (λ (rest : List ℕ). take at buffer ++ (bytes ++ rest)) (drop-drop (length bytes) at buffer) ∙ sym (append_assoc (take at buffer) bytes (drop (at + length bytes) buffer)))

@@ -58,7 +58,6 @@ impl<const ROOM: usize> Page<ROOM> {
     /// Puts the text into a lent buffer from a place on, and answers the next place.
     // Room for the text is enough, and so is room for a whole page, where a caller was not told that the text fits one.
     // Kept: the place beside the buffer, by the edit lent_bytes_moved, which tells a lie only of a place behind 0.
-    #[tactic(auto, unfolding(crate::specs::Buffer::overlaid))]
     pub fn put(&self, out: &mut [u8], at: usize) -> usize
         requires { at + min (length self.now) ROOM ≤ length out.old }
         ensures puts { Puts out.old at self.now out.new result }
